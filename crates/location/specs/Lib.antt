@@ -1,0 +1,3 @@
+-- Location codes and levels.
+pub mod Codes
+pub mod Interleaving

@@ -1,0 +1,5 @@
+-- Definitions of block lists, and what is proved of them.
+pub mod Blocks
+pub mod Quadtree
+pub mod Number
+pub mod Raster

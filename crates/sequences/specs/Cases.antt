@@ -1,0 +1,49 @@
+-- The first of several causes that applies, and tests that agree.
+use mathlib.Core.Path.{_≡_, refl, sym, ap, _∙_}
+use mathlib.Core.Bool.{Bool, true, false, true≢false, false≢true}
+use Prim.Native.Nat.{ℕ, zero, suc, _<_}
+use native.Mathlib.Omega.{arith}
+
+-- The first number unless it is 0, else the second: causes are asked one after the other.
+unfoldable pub first : ℕ → ℕ → ℕ
+first zero b = b
+first (suc a) b = suc a
+
+-- A cause's number where its test holds, else 0.
+unfoldable pub when : Bool → ℕ → ℕ
+when true number = number
+when false number = 0
+
+pub first-none : (a b : ℕ) → a ≡ 0 → first a b ≡ b
+unfolding first
+first-none a b h = ap (λ (x : ℕ). first x b) h
+
+pub first-some : (a b : ℕ) → 0 < a → first a b ≡ a
+unfolding first
+first-some zero b h = absurd (omega arith)
+first-some (suc a) b h = refl
+
+-- No cause applies exactly where neither does.
+pub first-zero : (a b : ℕ) → first a b ≡ 0 → (a ≡ 0) × (b ≡ 0)
+unfolding first
+first-zero zero b h = (refl, h)
+first-zero (suc a) b h = absurd (omega arith)
+
+pub when-yes : (t : Bool) (k : ℕ) → t ≡ true → when t k ≡ k
+unfolding when
+when-yes t k h = ap (λ (b : Bool). when b k) h
+
+pub when-no : (t : Bool) (k : ℕ) → t ≡ false → when t k ≡ 0
+unfolding when
+when-no t k h = ap (λ (b : Bool). when b k) h
+
+pub when-zero : (t : Bool) (k : ℕ) → 0 < k → when t k ≡ 0 → t ≡ false
+unfolding when
+when-zero true k p h = absurd (omega arith)
+when-zero false k p h = refl
+
+-- Two tests that hold together are one.
+pub same-test : (a b : Bool) → (a ≡ true → b ≡ true) → (b ≡ true → a ≡ true) → a ≡ b
+same-test true b f g = sym (f refl)
+same-test false true f g = g refl
+same-test false false f g = refl
