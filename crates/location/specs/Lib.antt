@@ -1,3 +1,4 @@
 -- Location codes and levels.
 pub mod Codes
 pub mod Interleaving
+pub mod Levels
