@@ -1,0 +1,4 @@
+-- Points, directions, walks, corners and cycle form.
+pub mod Directions
+pub mod Walks
+pub mod CycleForm
