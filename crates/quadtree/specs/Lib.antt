@@ -3,3 +3,5 @@ pub mod Blocks
 pub mod Quadtree
 pub mod Number
 pub mod Raster
+pub mod Orders
+pub mod Merging
