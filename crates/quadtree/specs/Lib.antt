@@ -3,3 +3,4 @@ pub mod Blocks
 pub mod Quadtree
 pub mod Number
 pub mod Raster
+pub mod Covering
