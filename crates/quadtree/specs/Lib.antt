@@ -5,3 +5,4 @@ pub mod Number
 pub mod Raster
 pub mod Orders
 pub mod Merging
+pub mod Covering
