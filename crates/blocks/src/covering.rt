@@ -1,0 +1,97 @@
+// Causes 3 to 7: one pass over the blocks for what they cover, one for four siblings of one colour.
+ghost use mathlib.Core.Path.{_≡_};
+ghost use mathlib.Core.List.{List};
+ghost use Prim.Native.Nat.{ℕ, _+_, _≤_, _<_, _^_};
+ghost use lib.ListN.{length};
+ghost use Rattle.quadtree.specs.Blocks.{blocks};
+ghost use Rattle.quadtree.specs.Number.{cover, siblings};
+ghost use Rattle.blocks.specs.Covering.{faultOf, EqualLengths, mergeableAt};
+
+// The cause among 3, 4 and 5 that a block meets where `sum` pixels are covered before it; 0 for none.
+fn block_fault(n: u32, whole: usize, sum: usize, code: u32, level: u32) -> u32
+    requires { ⌜ whole ≡ 4 ^ n ⌝ }
+    ensures { λ r. ⌜ r ≡ faultOf n sum code level ⌝ }
+{
+    if n < level {
+        return 3;
+    }
+    if code as usize != sum {
+        return 4;
+    }
+    if sum == whole {
+        return 4;
+    }
+    if location::top_level(n, code) < level {
+        return 5;
+    }
+    0
+}
+
+// Causes 3, 4 and 5 per block in list order, then 6. Colours do not matter here.
+pub(crate) fn cover(n: u32, codes: &[u32], levels: &[u8]) -> u32
+    requires { ⌜ (n ≤ 8) × (length (now codes) ≡ length (now levels)) ⌝ }
+    ensures { λ r. ⌜ ((colours : List ℕ) → length colours ≡ length (now (levels .entry)) → r ≡ cover n 0 (blocks (now (codes .entry)) (now (levels .entry)) colours)) ⌝ }
+{
+    let whole = location::pixels(n);
+    let mut sum: usize = 0;
+    let mut i: usize = 0;
+    while i < codes.len() {
+        let level = levels[i] as u32;
+        let found = block_fault(n, whole, sum, codes[i], level);
+        if found != 0 {
+            return found;
+        }
+        sum += location::pixels(level);
+        i += 1;
+    }
+    if sum < whole {
+        return 6;
+    }
+    0
+}
+
+// Whether the four blocks from i on could be one: cause 7 at one place.
+fn mergeable(n: u32, codes: &[u32], levels: &[u8], colours: &[u8], i: usize) -> bool
+    requires { ⌜ EqualLengths (now codes) (now levels) (now colours) × (i + 3 < length (now codes)) ⌝ }
+    ensures { λ r. ⌜ r ≡ mergeableAt n (now (codes .entry)) (now (levels .entry)) (now (colours .entry)) i ⌝ }
+{
+    let level = levels[i];
+    if n <= level as u32 {
+        return false;
+    }
+    if location::top_level(n, codes[i]) <= level as u32 {
+        return false;
+    }
+    if levels[i + 1] != level {
+        return false;
+    }
+    if levels[i + 2] != level {
+        return false;
+    }
+    if levels[i + 3] != level {
+        return false;
+    }
+    let colour = colours[i];
+    if colours[i + 1] != colour {
+        return false;
+    }
+    if colours[i + 2] != colour {
+        return false;
+    }
+    colours[i + 3] == colour
+}
+
+// Cause 7 anywhere in the list.
+pub(crate) fn siblings(n: u32, codes: &[u32], levels: &[u8], colours: &[u8]) -> bool
+    requires { ⌜ EqualLengths (now codes) (now levels) (now colours) ⌝ }
+    ensures { λ r. ⌜ r ≡ siblings n (blocks (now (codes .entry)) (now (levels .entry)) (now (colours .entry))) ⌝ }
+{
+    let mut i: usize = 3;
+    while i < codes.len() {
+        if mergeable(n, codes, levels, colours, i - 3) {
+            return true;
+        }
+        i += 1;
+    }
+    false
+}
