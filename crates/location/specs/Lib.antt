@@ -4,3 +4,4 @@ pub mod Interleaving
 pub mod Levels
 pub mod Splitting
 pub mod Squares
+pub mod TopLevels
