@@ -2,3 +2,6 @@
 pub mod Codes
 pub mod Interleaving
 pub mod Levels
+pub mod Splitting
+pub mod Squares
+pub mod TopLevels
