@@ -4,3 +4,4 @@ pub mod Quadtree
 pub mod Number
 pub mod Raster
 pub mod Covering
+pub mod Painting
