@@ -5,3 +5,4 @@ pub mod Number
 pub mod Raster
 pub mod Covering
 pub mod Painting
+pub mod Trees
