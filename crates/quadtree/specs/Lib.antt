@@ -6,3 +6,4 @@ pub mod Raster
 pub mod Covering
 pub mod Painting
 pub mod Trees
+pub mod Parsing
