@@ -6,3 +6,6 @@ pub mod Raster
 pub mod Orders
 pub mod Merging
 pub mod Covering
+pub mod Painting
+pub mod Trees
+pub mod Parsing
