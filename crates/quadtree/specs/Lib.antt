@@ -9,3 +9,4 @@ pub mod Covering
 pub mod Painting
 pub mod Trees
 pub mod Parsing
+pub mod Merged
