@@ -1,45 +1,18 @@
--- The pass for causes 3 to 6 and the pass for cause 7, block by block.
-use mathlib.Core.Path.{_≡_, refl, sym, ap, _∙_, subst}
+-- The pass for causes 3 to 6, block by block.
+use mathlib.Core.Path.{_≡_, refl, sym, ap, ap₂, _∙_, subst}
 use mathlib.Core.Bool.{Bool, true, false, not, _&&_, _||_}
 use mathlib.Core.List.{List, [], _∷_}
 use Prim.Native.Nat.{ℕ, zero, suc, _+_, _-_, _%_, _^_, _≤_, _<_}
 use native.Mathlib.Numerals.{add-one}
 use native.Mathlib.Omega.{arith}
-use lib.ListN.{length, getD, drop, drop-of-length-le}
-use lib.Seq.{drop-cons}
+use lib.ListN.{length, getD, drop, drop-of-length-le, length-drop}
 use lib.Dec.{eqb, ltb}
 use borrow.Author.Tests.{lt-ltb, le-ltb, eq-eqb, ne-eqb, ltb-true, ltb-false, eqb-true, eqb-false}
 use Rattle.sequences.specs.Cases.{first, first-some, first-none}
 use Rattle.quadtree.specs.Blocks.{Block, blocks}
-use Rattle.quadtree.specs.Number.{cover, mergeable, siblings}
-use Rattle.quadtree.specs.Covering.{block-fits, cover-zero, NextBlock, cover-end-short, cover-end-full}
-
-pub record EqualLengths (codes levels colours : List ℕ) : Type 0 where
-  pub levels-too : length codes ≡ length levels
-  pub colours-too : length levels ≡ length colours
-
--- The block at the place i of a block list.
-unfoldable pub blockOf : List ℕ → List ℕ → List ℕ → ℕ → Block
-blockOf codes levels colours i = record { code = getD codes i 0; level = getD levels i 0; colour = getD colours i 0 }
-
-pub length-blocks : (cs ls ks : List ℕ) → EqualLengths cs ls ks → length (blocks cs ls ks) ≡ length cs
-unfolding blocks
-length-blocks [] ls ks e = refl
-length-blocks (c ∷ cs) [] ks e = absurd (omega (arith, e .levels-too))
-length-blocks (c ∷ cs) (l ∷ ls) [] e = absurd (omega (arith, e .colours-too))
-length-blocks (c ∷ cs) (l ∷ ls) (k ∷ ks) e =
-    ap suc (length-blocks cs ls ks (record { levels-too = omega (arith, e .levels-too); colours-too = omega (arith, e .colours-too) }))
-
--- The rest of a block list from the place i on begins with the block there.
-pub rest-of-blocks : (cs ls ks : List ℕ) → EqualLengths cs ls ks → (i : ℕ) → i < length cs
-    → drop i (blocks cs ls ks) ≡ blockOf cs ls ks i ∷ drop (suc i) (blocks cs ls ks)
-unfolding blocks blockOf
-rest-of-blocks [] ls ks e i h = absurd (omega arith)
-rest-of-blocks (c ∷ cs) [] ks e i h = absurd (omega (arith, e .levels-too))
-rest-of-blocks (c ∷ cs) (l ∷ ls) [] e i h = absurd (omega (arith, e .colours-too))
-rest-of-blocks (c ∷ cs) (l ∷ ls) (k ∷ ks) e zero h = refl
-rest-of-blocks (c ∷ cs) (l ∷ ls) (k ∷ ks) e (suc i) h =
-    rest-of-blocks cs ls ks (record { levels-too = omega (arith, e .levels-too); colours-too = omega (arith, e .colours-too) }) i (omega arith)
+use Rattle.quadtree.specs.Number.{cover}
+use Rattle.quadtree.specs.Covering.{block-fits, cover-end-short, cover-end-full}
+use Rattle.blocks.specs.Lists.{EqualLengths, blockOf, length-blocks, rest-of-blocks}
 
 -- The cause among 3, 4 and 5 that a block meets where `sum` pixels are covered before it; 0 for none.
 unfoldable pub faultOf : ℕ → ℕ → ℕ → ℕ → ℕ
@@ -48,11 +21,6 @@ faultOf n sum code level =
       | true ↦ 3
       | false ↦ elim (not (eqb code sum) || eqb sum (4 ^ n)) [ true ↦ 4 | false ↦ elim (eqb (code % 4 ^ level) 0) [ true ↦ 0 | false ↦ 5 ] ]
     ]
-
--- Cause 7 for the four blocks from the place i on.
-unfoldable pub mergeableAt : ℕ → List ℕ → List ℕ → List ℕ → ℕ → Bool
-unfolding mergeable blockOf
-mergeableAt n cs ls ks i = mergeable n (blockOf cs ls ks i) (blockOf cs ls ks (i + 1)) (blockOf cs ls ks (i + 2)) (blockOf cs ls ks (i + 3))
 
 -- Its cases, in the order of the code's tests.
 pub fault-above : (n sum c l : ℕ) → n < l → 3 ≡ faultOf n sum c l

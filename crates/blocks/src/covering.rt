@@ -5,7 +5,9 @@ ghost use Prim.Native.Nat.{ℕ, _+_, _≤_, _<_, _^_};
 ghost use lib.ListN.{length};
 ghost use Rattle.quadtree.specs.Blocks.{blocks};
 ghost use Rattle.quadtree.specs.Number.{cover, siblings};
-ghost use Rattle.blocks.specs.Covering.{faultOf, EqualLengths, mergeableAt};
+ghost use Rattle.blocks.specs.Lists.{EqualLengths};
+ghost use Rattle.blocks.specs.Covering.{faultOf};
+ghost use Rattle.blocks.specs.Siblings.{fourAlike, mergeableAt};
 
 // The cause among 3, 4 and 5 that a block meets where `sum` pixels are covered before it; 0 for none.
 fn block_fault(n: u32, whole: usize, sum: usize, code: u32, level: u32) -> u32
@@ -50,35 +52,37 @@ pub(crate) fn cover(n: u32, codes: &[u32], levels: &[u8]) -> u32
     0
 }
 
+// Whether the four entries from i on are equal.
+fn four_alike(list: &[u8], i: usize) -> bool
+    requires { ⌜ i + 3 < length (now list) ⌝ }
+    ensures { λ r. ⌜ r ≡ fourAlike (now (list .entry)) i ⌝ }
+{
+    let first = list[i];
+    if list[i + 1] != first {
+        return false;
+    }
+    if list[i + 2] != first {
+        return false;
+    }
+    list[i + 3] == first
+}
+
 // Whether the four blocks from i on could be one: cause 7 at one place.
 fn mergeable(n: u32, codes: &[u32], levels: &[u8], colours: &[u8], i: usize) -> bool
     requires { ⌜ EqualLengths (now codes) (now levels) (now colours) × (i + 3 < length (now codes)) ⌝ }
     ensures { λ r. ⌜ r ≡ mergeableAt n (now (codes .entry)) (now (levels .entry)) (now (colours .entry)) i ⌝ }
 {
-    let level = levels[i];
-    if n <= level as u32 {
+    let level = levels[i] as u32;
+    if n <= level {
         return false;
     }
-    if location::top_level(n, codes[i]) <= level as u32 {
+    if location::top_level(n, codes[i]) <= level {
         return false;
     }
-    if levels[i + 1] != level {
+    if !four_alike(levels, i) {
         return false;
     }
-    if levels[i + 2] != level {
-        return false;
-    }
-    if levels[i + 3] != level {
-        return false;
-    }
-    let colour = colours[i];
-    if colours[i + 1] != colour {
-        return false;
-    }
-    if colours[i + 2] != colour {
-        return false;
-    }
-    colours[i + 3] == colour
+    four_alike(colours, i)
 }
 
 // Cause 7 anywhere in the list.
@@ -86,9 +90,9 @@ pub(crate) fn siblings(n: u32, codes: &[u32], levels: &[u8], colours: &[u8]) -> 
     requires { ⌜ EqualLengths (now codes) (now levels) (now colours) ⌝ }
     ensures { λ r. ⌜ r ≡ siblings n (blocks (now (codes .entry)) (now (levels .entry)) (now (colours .entry))) ⌝ }
 {
-    let mut i: usize = 3;
-    while i < codes.len() {
-        if mergeable(n, codes, levels, colours, i - 3) {
+    let mut i: usize = 0;
+    while i + 3 < codes.len() {
+        if mergeable(n, codes, levels, colours, i) {
             return true;
         }
         i += 1;
