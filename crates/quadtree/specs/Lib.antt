@@ -7,3 +7,4 @@ pub mod Covering
 pub mod Painting
 pub mod Trees
 pub mod Parsing
+pub mod Siblings
