@@ -8,3 +8,4 @@ pub mod Painting
 pub mod Trees
 pub mod Parsing
 pub mod Siblings
+pub mod Reducing
