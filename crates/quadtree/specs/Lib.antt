@@ -9,3 +9,6 @@ pub mod Trees
 pub mod Parsing
 pub mod Siblings
 pub mod Reducing
+pub mod Unmerged
+pub mod Fields
+pub mod Accepted
