@@ -12,3 +12,4 @@ pub mod Reducing
 pub mod Unmerged
 pub mod Fields
 pub mod Accepted
+pub mod Meaning
