@@ -1,24 +1,24 @@
 -- The accepted block lists are exactly the quadtrees of images.
 use mathlib.Core.Path.{_≡_, refl, sym, ap, _∙_, subst}
 use mathlib.Core.Logic.{_↔_}
-use mathlib.Core.Bool.{Bool, true, false, not, _&&_, false≢true, true≢false}
+use mathlib.Core.Bool.{Bool, true, false, not, _&&_, true≢false}
 use mathlib.Core.List.{List, [], _∷_, _++_, head-eq-of-cons-eq}
-use Prim.Native.Nat.{ℕ, zero, suc, _+_, _-_, _*_, _%_, _^_, _≤_, _<_}
+use Prim.Native.Nat.{ℕ, zero, suc, _+_, _-_, _^_, _≤_, _<_}
 use native.Mathlib.Nat.{dvd-zero}
 use native.Mathlib.Decide.{decLt}
 use native.Mathlib.Omega.{arith}
 use lib.ListN.{length, getD, length-append, length-map}
 use lib.Dec.{eqb, ltb}
 use borrow.Author.Tests.{ltb-false, eqb-true, le-ltb, eq-eqb, not-false}
-use Rattle.sequences.specs.Cases.{first, when, first-zero, first-none, when-zero, when-no}
+use Rattle.sequences.specs.Cases.{first, when, first-zero, when-zero}
 use Rattle.sequences.specs.Powers.{pow4-pos}
-use Rattle.quadtree.specs.Blocks.{Block, blocks, pixels, paint}
+use Rattle.quadtree.specs.Blocks.{Block, blocks, paint}
 use Rattle.quadtree.specs.Quadtree.{alike, quadrant, quadtree}
 use Rattle.quadtree.specs.Number.{cover, siblings, number}
 use Rattle.quadtree.specs.Covering.{covers-of-zero, zero-of-covers}
-use Rattle.quadtree.specs.Painting.{block, alike-each, each-alike, quadrant-pixel, quadrant-one, quadrant-four, paint-quadtree}
+use Rattle.quadtree.specs.Painting.{block, alike-each, each-alike, quadrant-pixel, quadrant-one, quadrant-four}
 use Rattle.quadtree.specs.Siblings.{both-true}
-use Rattle.quadtree.specs.Trees.{Tree, leaf, node, flat, Reduced, flat-leaf, flat-node, flat-some, quadtree-flat}
+use Rattle.quadtree.specs.Trees.{Tree, leaf, node, flat, Reduced, flat-leaf, flat-node, quadtree-flat}
 use Rattle.quadtree.specs.Parsing.{tree-of-covering, covering-of-tree}
 use Rattle.quadtree.specs.Reducing.{none-reduced}
 use Rattle.quadtree.specs.Unmerged.{reduced-none}
@@ -47,6 +47,7 @@ quadrant-some px (suc m) c = pick (alike px (getD px c 0) c (4 ^ suc m)) refl (q
   where
     rest : List Block
     rest = quadrant px m (c + 4 ^ m) ++ (quadrant px m (c + 4 ^ m + 4 ^ m) ++ quadrant px m (c + 4 ^ m + 4 ^ m + 4 ^ m))
+
     pick : (b : Bool) → alike px (getD px c 0) c (4 ^ suc m) ≡ b → 0 < length (quadrant px m c) → 0 < length (quadrant px (suc m) c)
     pick true e h = rw (quadrant-one px m c e) (omega arith)
     pick false e h = rw (quadrant-four px m c e) (rw (length-append (quadrant px m c) rest) (omega arith))
@@ -60,10 +61,13 @@ one-block-alike px v (suc m) c e = pick (alike px (getD px c 0) c (4 ^ suc m)) r
   where
     P : List Block
     P = quadrant px m c
+
     Q : List Block
     Q = quadrant px m (c + 4 ^ m)
+
     R : List Block
     R = quadrant px m (c + 4 ^ m + 4 ^ m) ++ quadrant px m (c + 4 ^ m + 4 ^ m + 4 ^ m)
+
     pick : (b : Bool) → alike px (getD px c 0) c (4 ^ suc m) ≡ b → alike px v c (4 ^ suc m) ≡ true
     pick true f =
         let colour : getD px c 0 ≡ v = ap (λ (b : Block). b .colour) (head-eq-of-cons-eq (sym (quadrant-one px m c f) ∙ e)) in
@@ -82,20 +86,20 @@ unfolding Reduced
 node-of px m c e p q r s = record {
   tree = node (p .tree) (q .tree) (r .tree) (s .tree);
   same =
-    quadrant-four px m c e ∙ (rw (p .same, q .same, r .same, s .same) refl ∙ sym (flat-node m c (p .tree) (q .tree) (r .tree) (s .tree)));
-  reduced = (never, p .reduced, q .reduced, r .reduced, s .reduced)
+      quadrant-four px m c e ∙ (rw (p .same, q .same, r .same, s .same) refl ∙ sym (flat-node m c (p .tree) (q .tree) (r .tree) (s .tree)));
+  reduced = (never, p .reduced, q .reduced, r .reduced, s .reduced);
 }
   where
     never : (v : ℕ) → p .tree ≡ leaf v → q .tree ≡ leaf v → r .tree ≡ leaf v → s .tree ≡ leaf v → ⊥
     never v ep eq er es =
         let two : alike px v c (4 ^ m + 4 ^ m) ≡ true = alike-append px v c (4 ^ m) (4 ^ m) (leaf-alike px v m c p ep) (leaf-alike px v m (c + 4 ^ m) q eq) in
         let more : alike px v (c + 4 ^ m + 4 ^ m) (4 ^ m + 4 ^ m) ≡ true =
-          alike-append px v (c + 4 ^ m + 4 ^ m) (4 ^ m) (4 ^ m) (leaf-alike px v m (c + 4 ^ m + 4 ^ m) r er) (leaf-alike px v m (c + 4 ^ m + 4 ^ m + 4 ^ m) s es) in
+        alike-append px v (c + 4 ^ m + 4 ^ m) (4 ^ m) (4 ^ m) (leaf-alike px v m (c + 4 ^ m + 4 ^ m) r er) (leaf-alike px v m (c + 4 ^ m + 4 ^ m + 4 ^ m) s es) in
         let place : c + 4 ^ m + 4 ^ m ≡ c + (4 ^ m + 4 ^ m) = omega arith in
         let size : 4 ^ m + 4 ^ m + (4 ^ m + 4 ^ m) ≡ 4 ^ suc m = omega arith in
         let all : alike px v c (4 ^ suc m) ≡ true =
-          subst (λ x. alike px v c x ≡ true) size
-          (alike-append px v c (4 ^ m + 4 ^ m) (4 ^ m + 4 ^ m) two (subst (λ x. alike px v x (4 ^ m + 4 ^ m) ≡ true) place more)) in
+        subst (λ x. alike px v c x ≡ true) size
+        (alike-append px v c (4 ^ m + 4 ^ m) (4 ^ m + 4 ^ m) two (subst (λ x. alike px v x (4 ^ m + 4 ^ m) ≡ true) place more)) in
         let here : c + 0 ≡ c = omega arith in
         let colour : v ≡ getD px c 0 = sym (alike-each px v c (4 ^ suc m) all 0 (pow4-pos (suc m))) ∙ ap (λ (x : ℕ). getD px x 0) here in
         true≢false (sym (subst (λ x. alike px x c (4 ^ suc m) ≡ true) colour all) ∙ e)
@@ -149,7 +153,7 @@ number-zero n cs ls ks h =
       equal-levels = eqb-true (length cs) (length ls) (same .0);
       equal-colours = eqb-true (length ls) (length ks) (same .1);
       covering = h3 .0;
-      unmerged = when-zero (siblings n (blocks cs ls ks)) 7 (omega arith) (h3 .1)
+      unmerged = when-zero (siblings n (blocks cs ls ks)) 7 (omega arith) (h3 .1);
     }
 
 pub zero-number : (n : ℕ) (cs ls ks : List ℕ) → Passes n cs ls ks → number n cs ls ks ≡ 0
@@ -160,21 +164,20 @@ zero-number n cs ls ks p =
 -- An accepted list is exactly the quadtree of what it paints.
 pub accepted-exactly-quadtree : (n : ℕ) (cs ls ks : List ℕ)
     → (number n cs ls ks ≡ 0)
-      ↔ ((n ≤ 8) × (length cs ≡ length ls) × (length ls ≡ length ks) × (blocks cs ls ks ≡ quadtree n (paint (blocks cs ls ks))))
-accepted-exactly-quadtree n cs ls ks =
-    (
-      λ h. let p = number-zero n cs ls ks h in
-        (p .small, p .equal-levels, p .equal-colours, passing-quadtree n (blocks cs ls ks) (p .covering) (p .unmerged)),
-      λ h. let bs : List Block = blocks cs ls ks in
-        zero-number n cs ls ks
-        (record {
-          small = h .0;
-          equal-levels = h .1;
-          equal-colours = h .2;
-          covering = ap (cover n 0) (h .3) ∙ cover-quadtree n (paint bs);
-          unmerged = ap (siblings n) (h .3) ∙ siblings-quadtree n (paint bs)
-        })
-    )
+    ↔ ((n ≤ 8) × (length cs ≡ length ls) × (length ls ≡ length ks) × (blocks cs ls ks ≡ quadtree n (paint (blocks cs ls ks))))
+accepted-exactly-quadtree n cs ls ks = (
+  λ h. let p = number-zero n cs ls ks h in
+      (p .small, p .equal-levels, p .equal-colours, passing-quadtree n (blocks cs ls ks) (p .covering) (p .unmerged)),
+  λ h. let bs : List Block = blocks cs ls ks in
+      zero-number n cs ls ks
+      (record {
+        small = h .0;
+        equal-levels = h .1;
+        equal-colours = h .2;
+        covering = ap (cover n 0) (h .3) ∙ cover-quadtree n (paint bs);
+        unmerged = ap (siblings n) (h .3) ∙ siblings-quadtree n (paint bs);
+      }),
+)
 
 -- Two accepted lists that paint the same pixels are one.
 pub one-accepted-list : (n : ℕ) (cs ls ks ds ms vs : List ℕ) → number n cs ls ks ≡ 0 → number n ds ms vs ≡ 0
@@ -182,11 +185,10 @@ pub one-accepted-list : (n : ℕ) (cs ls ks ds ms vs : List ℕ) → number n cs
 one-accepted-list n cs ls ks ds ms vs g h e =
     let p = accepted-exactly-quadtree n cs ls ks .0 g in
     let q = accepted-exactly-quadtree n ds ms vs .0 h in
-    let same : blocks cs ls ks ≡ blocks ds ms vs = p .3 ∙ ap (quadtree n) e ∙ sym (q .3) in
-    (
+    let same : blocks cs ls ks ≡ blocks ds ms vs = p .3 ∙ ap (quadtree n) e ∙ sym (q .3) in (
       sym (codes-of-blocks cs ls ks (p .1) (p .2)) ∙ ap codes same ∙ codes-of-blocks ds ms vs (q .1) (q .2),
       sym (levels-of-blocks cs ls ks (p .1) (p .2)) ∙ ap levels same ∙ levels-of-blocks ds ms vs (q .1) (q .2),
-      sym (colours-of-blocks cs ls ks (p .1) (p .2)) ∙ ap colours same ∙ colours-of-blocks ds ms vs (q .1) (q .2)
+      sym (colours-of-blocks cs ls ks (p .1) (p .2)) ∙ ap colours same ∙ colours-of-blocks ds ms vs (q .1) (q .2),
     )
 
 -- The quadtree of every image is accepted.
@@ -200,5 +202,5 @@ quadtree-accepted n px small =
       equal-levels = length-map bs (λ (b : Block). b .code) ∙ sym (length-map bs (λ (b : Block). b .level));
       equal-colours = length-map bs (λ (b : Block). b .level) ∙ sym (length-map bs (λ (b : Block). b .colour));
       covering = ap (cover n 0) same ∙ cover-quadtree n px;
-      unmerged = ap (siblings n) same ∙ siblings-quadtree n px
+      unmerged = ap (siblings n) same ∙ siblings-quadtree n px;
     })

@@ -1,14 +1,14 @@
 -- Lists that cover an image block by block: what number 0 of causes 3 to 6 says.
 use mathlib.Core.Path.{_≡_, refl, sym, ap, _∙_, subst}
 use mathlib.Core.Logic.{_↔_, _⊎_, inl, inr}
-use mathlib.Core.Bool.{Bool, true, false, not, _&&_, _||_, false≢true, true≢false}
+use mathlib.Core.Bool.{Bool, true, false}
 use mathlib.Core.List.{List, [], _∷_, _++_, List·Memᴰ, List·Memᴰ·not-nil, List·Memᴰ·cases-cons}
-use Prim.Native.Nat.{ℕ, zero, suc, _+_, _-_, _*_, _%_, _^_, _≤_, _<_, _∣_}
-use native.Mathlib.Nat.{dvd-sub, le-of-dvd, dvd-of-mod-eq-zero, mod-eq-zero-of-dvd}
+use Prim.Native.Nat.{ℕ, _+_, _-_, _%_, _^_, _≤_, _<_, _∣_}
+use native.Mathlib.Nat.{dvd-sub, le-of-dvd, dvd-of-mod-eq-zero}
 use native.Mathlib.Omega.{arith}
 use lib.Dec.{eqb, ltb}
 use borrow.Author.Tests.{ltb-true, ltb-false, eqb-true, eqb-false, lt-ltb, le-ltb, eq-eqb, ne-eqb}
-use Rattle.sequences.specs.Powers.{pow4-pos, pow4-divides}
+use Rattle.sequences.specs.Powers.{pow4-divides}
 use Rattle.quadtree.specs.Blocks.{Block, pixels}
 use Rattle.quadtree.specs.Number.{cover}
 
@@ -100,7 +100,7 @@ cover-zero n sum b bs most e = pick (ltb n (b .level)) (eqb (b .code) sum) (eqb 
           room = room;
           multiple = multiple;
           fits = omega (arith, block-fits n (b .level) (b .code) low (omega arith) multiple);
-          rest = sym (cover-more n sum b bs low here less multiple) ∙ e
+          rest = sym (cover-more n sum b bs low here less multiple) ∙ e;
         }
 
 pub covers-of-zero : (n sum : ℕ) (bs : List Block) → sum ≤ 4 ^ n → cover n sum bs ≡ 0 → Covers n sum bs
@@ -153,9 +153,8 @@ covers-member n sum (a ∷ bs) b c i = pick (List·Memᴰ·cases-cons i) (covers
     pick : (b ≡ a) ⊎ List·Memᴰ b bs → (List·Memᴰ b bs → (sum + 4 ^ a .level ≤ b .code) × Quadrant n b) → (sum ≤ b .code) × Quadrant n b
     pick (inl e) later =
         let code : b .code ≡ sum = ap (λ (x : Block). x .code) e ∙ c .1 in
-        let level : 4 ^ b .level ≡ 4 ^ a .level = ap (λ (x : Block). 4 ^ x .level) e in
-        (
+        let level : 4 ^ b .level ≡ 4 ^ a .level = ap (λ (x : Block). 4 ^ x .level) e in (
           omega arith,
-          subst (λ x. Quadrant n x) (sym e) (record { low = c .0; multiple = c .3; fits = omega (arith, covers-here n sum a bs c) })
+          subst (λ x. Quadrant n x) (sym e) (record { low = c .0; multiple = c .3; fits = omega (arith, covers-here n sum a bs c) }),
         )
     pick (inr j) later = (omega (arith, later j .0), later j .1)

@@ -1,19 +1,18 @@
 -- What an accepted block list is, in document 01's words, without the order in which causes are asked.
-use mathlib.Core.Path.{_≡_, refl, sym, ap, _∙_, subst}
+use mathlib.Core.Path.{_≡_, refl, sym, ap, subst}
 use mathlib.Core.Logic.{_↔_, _⊎_, inl, inr}
 use mathlib.Core.Bool.{false}
 use mathlib.Core.List.{List, [], _∷_, _++_, List·Memᴰ, List·Memᴰ·head, List·Memᴰ·tail, List·Memᴰ·not-nil, List·Memᴰ·cases-cons, Memᴰ·append-right, head-eq-of-cons-eq, tail-eq-of-cons-eq}
-use Prim.Native.Nat.{ℕ, zero, suc, _+_, _*_, _%_, _^_, _≤_, _<_}
+use Prim.Native.Nat.{ℕ, _+_, _^_, _≤_, _<_}
 use native.Mathlib.Decide.{decLt}
 use native.Mathlib.Omega.{arith}
 use lib.ListN.{length, length-append}
 use Rattle.sequences.specs.Powers.{pow4-pos}
 use Rattle.quadtree.specs.Blocks.{Block, blocks, pixels}
-use Rattle.quadtree.specs.Number.{cover, siblings, number}
-use Rattle.quadtree.specs.Covering.{Covers, Quadrant, covers-rest, covers-member, covers-here, covers-of-zero, zero-of-covers}
-use Rattle.quadtree.specs.Reducing.{SiblingBlocks}
+use Rattle.quadtree.specs.Number.{siblings, number}
+use Rattle.quadtree.specs.Covering.{Covers, Quadrant, covers-rest, covers-member, covers-of-zero, zero-of-covers}
 use Rattle.quadtree.specs.Unmerged.{Unmerged, unmerged-none, none-unmerged}
-use Rattle.quadtree.specs.Accepted.{Passes, number-zero, zero-number}
+use Rattle.quadtree.specs.Accepted.{number-zero, zero-number}
 
 -- The pixel with the code c is one of the block's 4^level pixels, whose codes begin with the block's own.
 abbrev pub Holds : Block → ℕ → Type 0
@@ -51,7 +50,7 @@ once-later c b bs other o = record {
   split = ap (λ (l : List Block). b ∷ l) (o .split);
   holds = o .holds;
   not-before = λ x i h. pick x h (List·Memᴰ·cases-cons i);
-  not-after = o .not-after
+  not-after = o .not-after;
 }
   where
     pick : (x : Block) → Holds x c → (x ≡ b) ⊎ List·Memᴰ x (o .before) → ⊥
@@ -71,7 +70,7 @@ covers-once n sum c (b ∷ bs) f low high = pick (decLt c (sum + 4 ^ b .level)) 
       split = refl;
       holds = (omega (arith, f .1), omega (arith, f .1));
       not-before = λ x i h. List·Memᴰ·not-nil i;
-      not-after = λ x i h. omega (arith, covers-member n (sum + 4 ^ b .level) bs x (f .4) i .0, h .0)
+      not-after = λ x i h. omega (arith, covers-member n (sum + 4 ^ b .level) bs x (f .4) i .0, h .0);
     }
     pick (no l) later = once-later c b bs (λ h. omega (arith, h .1, f .1)) (later (omega arith))
 
@@ -86,7 +85,7 @@ covering-accepted n bs f none = record {
   quadrants = λ b i. covers-member n 0 bs b f i .1;
   once = λ c l. covers-once n 0 c bs f (omega arith) l;
   rising = λ before after a b split i. covers-rising n 0 bs before after a b f split i;
-  unmerged = none-unmerged n bs f none
+  unmerged = none-unmerged n bs f none;
 }
 
 -- ---- and a list that is so covers
@@ -113,14 +112,12 @@ once-cases c b bs o = pick (o .before) (o .split) (o .not-before)
     pick : (before : List Block) → b ∷ bs ≡ before ++ o .here ∷ o .after → ((x : Block) → List·Memᴰ x before → Holds x c → ⊥)
         → (Holds b c × ((x : Block) → List·Memᴰ x bs → Holds x c → ⊥)) ⊎ ((Holds b c → ⊥) × Once c bs)
     pick [] split free =
-        inl
-        (
+        inl (
           subst (λ y. Holds y c) (sym (head-eq-of-cons-eq split)) (o .holds),
-          λ x i. o .not-after x (subst (λ l. List·Memᴰ x l) (tail-eq-of-cons-eq split) i)
+          λ x i. o .not-after x (subst (λ l. List·Memᴰ x l) (tail-eq-of-cons-eq split) i),
         )
     pick (y ∷ before) split free =
-        inr
-        (
+        inr (
           free b (List·Memᴰ·head (head-eq-of-cons-eq split)),
           record {
             before = before;
@@ -129,8 +126,8 @@ once-cases c b bs o = pick (o .before) (o .split) (o .not-before)
             split = tail-eq-of-cons-eq split;
             holds = o .holds;
             not-before = λ x i. free x (List·Memᴰ·tail i);
-            not-after = o .not-after
-          }
+            not-after = o .not-after;
+          },
         )
 
 module _ (n sum : ℕ) (b : Block) (bs : List Block) (left : Left n sum (b ∷ bs)) where
@@ -149,6 +146,7 @@ module _ (n sum : ℕ) (b : Block) (bs : List Block) (left : Left n sum (b ∷ b
     where
       low : sum ≤ b .code
       low = left .starts b (List·Memᴰ·head refl)
+
       pick : (Holds b sum × ((x : Block) → List·Memᴰ x bs → Holds x sum → ⊥)) ⊎ ((Holds b sum → ⊥) × Once sum bs) → b .code ≡ sum
       pick (inl h) = omega (arith, low, h .0 .0)
       pick (inr h) = absurd (omega (arith, low, larger (h .1 .here) (once-member sum bs (h .1)), h .1 .holds .0))
@@ -159,16 +157,20 @@ module _ (n sum : ℕ) (b : Block) (bs : List Block) (left : Left n sum (b ∷ b
     where
       more : b .code < x .code
       more = larger x i
+
       fits : x .code + 4 ^ x .level ≤ 4 ^ n
       fits = left .quadrants x (List·Memᴰ·tail i) .fits
+
       own : Holds x (x .code)
       own = (omega arith, omega (arith, pow4-pos (x .level)))
+
       pick : Dec (x .code < sum + 4 ^ b .level) → sum + 4 ^ b .level ≤ x .code
       pick (no l) = omega arith
       pick (yes l) = clash (once-cases (x .code) b bs (left .once (x .code) (omega (arith, more, first-code)) (omega (arith, fits, pow4-pos (x .level)))))
         where
           held : Holds b (x .code)
           held = (omega (arith, more), omega (arith, first-code))
+
           clash : (Holds b (x .code) × ((y : Block) → List·Memᴰ y bs → Holds y (x .code) → ⊥)) ⊎ ((Holds b (x .code) → ⊥) × Once (x .code) bs)
               → sum + 4 ^ b .level ≤ x .code
           clash (inl h) = absurd (h .1 x i own)
@@ -180,7 +182,7 @@ module _ (n sum : ℕ) (b : Block) (bs : List Block) (left : Left n sum (b ∷ b
     starts = later-code;
     quadrants = λ x i. left .quadrants x (List·Memᴰ·tail i);
     once = λ c low high. pick c low (once-cases c b bs (left .once c (omega arith) high));
-    rising = λ before after x y split i. left .rising (b ∷ before) after x y (ap (λ (l : List Block). b ∷ l) split) i
+    rising = λ before after x y split i. left .rising (b ∷ before) after x y (ap (λ (l : List Block). b ∷ l) split) i;
   }
     where
       pick : (c : ℕ) → sum + 4 ^ b .level ≤ c → (Holds b c × ((x : Block) → List·Memᴰ x bs → Holds x c → ⊥)) ⊎ ((Holds b c → ⊥) × Once c bs) → Once c bs
@@ -206,19 +208,18 @@ accepted-covers n bs a =
 -- Number 0 is given exactly to the lists of equal length whose blocks are accepted in this sense.
 pub accepted-means : (n : ℕ) (cs ls ks : List ℕ)
     → (number n cs ls ks ≡ 0) ↔ ((n ≤ 8) × (length cs ≡ length ls) × (length ls ≡ length ks) × Accepted n (blocks cs ls ks))
-accepted-means n cs ls ks =
-    (
-      λ h. let p = number-zero n cs ls ks h in
-        let bs : List Block = blocks cs ls ks in
-        (p .small, p .equal-levels, p .equal-colours, covering-accepted n bs (covers-of-zero n 0 bs (omega arith) (p .covering)) (p .unmerged)),
-      λ h. let bs : List Block = blocks cs ls ks in
-        let f : Covers n 0 bs = accepted-covers n bs (h .3) in
-        zero-number n cs ls ks
-        (record {
-          small = h .0;
-          equal-levels = h .1;
-          equal-colours = h .2;
-          covering = zero-of-covers n 0 bs f;
-          unmerged = unmerged-none n bs f (h .3 .unmerged)
-        })
-    )
+accepted-means n cs ls ks = (
+  λ h. let p = number-zero n cs ls ks h in
+      let bs : List Block = blocks cs ls ks in
+      (p .small, p .equal-levels, p .equal-colours, covering-accepted n bs (covers-of-zero n 0 bs (omega arith) (p .covering)) (p .unmerged)),
+  λ h. let bs : List Block = blocks cs ls ks in
+      let f : Covers n 0 bs = accepted-covers n bs (h .3) in
+      zero-number n cs ls ks
+      (record {
+        small = h .0;
+        equal-levels = h .1;
+        equal-colours = h .2;
+        covering = zero-of-covers n 0 bs f;
+        unmerged = unmerged-none n bs f (h .3 .unmerged);
+      }),
+)

@@ -2,14 +2,13 @@
 use mathlib.Core.Path.{_≡_, refl, sym, ap, _∙_, subst}
 use mathlib.Core.Logic.{_⊎_, inl, inr}
 use mathlib.Core.List.{List, [], _∷_, _++_, append-assoc, append-nil}
-use Prim.Native.Nat.{ℕ, zero, suc, _+_, _*_, _%_, _^_, _≤_, _<_, _∣_}
+use Prim.Native.Nat.{ℕ, zero, suc, _+_, _*_, _^_, _≤_, _<_, _∣_}
 use native.Mathlib.Nat.{dvd-trans, dvd-add, dvd-add-iff-right, mul-pos, mul-lt-mul-of-pos-right, le-of-dvd, dvd-mul-left, dvd-zero, eq-or-lt-of-le, le-of-suc-le-suc, dvd-of-mod-eq-zero, mod-eq-zero-of-dvd}
 use native.Mathlib.Decide.{decLe}
 use native.Mathlib.Omega.{arith}
 use Rattle.sequences.specs.Powers.{pow4-pos, pow4-divides}
 use Rattle.quadtree.specs.Blocks.{Block}
 use Rattle.quadtree.specs.Covering.{Covers}
-use Rattle.quadtree.specs.Painting.{block}
 use Rattle.quadtree.specs.Trees.{Tree, leaf, node, flat, quarters-divide}
 
 -- A quarter that is not a square's first does not begin a block larger than itself.
@@ -48,7 +47,7 @@ leaf-of l n c b bs f e = record {
   tree = leaf (b .colour);
   rest = bs;
   cut = λ i. record { code = f .1 i; level = e i; colour = b .colour } ∷ bs;
-  covers = subst (λ x. Covers n (c + 4 ^ x) bs) e (f .4)
+  covers = subst (λ x. Covers n (c + 4 ^ x) bs) e (f .4);
 }
 
 abbrev Parser : ℕ → ℕ → Type 0
@@ -70,12 +69,12 @@ module _ (k n c : ℕ) (bs : List Block) (again : Parser k n) (d : 4 ^ suc k ∣
     tree = node (p1 .tree) (p2 .tree) (p3 .tree) (p4 .tree);
     rest = p4 .rest;
     cut =
-      p1 .cut
-      ∙ ap (λ x. flat k c (p1 .tree) ++ x)
+        p1 .cut
+        ∙ ap (λ x. flat k c (p1 .tree) ++ x)
         (p2 .cut
         ∙ ap (λ x. flat k (c + 4 ^ k) (p2 .tree) ++ x) (p3 .cut ∙ ap (λ x. flat k (c + 4 ^ k + 4 ^ k) (p3 .tree) ++ x) (p4 .cut)))
-      ∙ simp append-assoc;
-    covers = subst (λ x. Covers n x (p4 .rest)) (omega arith) (p4 .covers)
+        ∙ simp append-assoc;
+    covers = subst (λ x. Covers n x (p4 .rest)) (omega arith) (p4 .covers);
   }
 
   third : (p1 : Parsed k n c bs) (p2 : Parsed k n (c + 4 ^ k) (p1 .rest)) (p3 : Parsed k n (c + 4 ^ k + 4 ^ k) (p2 .rest)) → Parsed (suc k) n c bs
@@ -118,13 +117,12 @@ pub tree-of-covering : (n : ℕ) (bs : List Block) → Covers n 0 bs → (t : Tr
 tree-of-covering n bs f = done (parse n n 0 bs f (dvd-zero (4 ^ n)) (omega arith) (head-top n 0 bs f))
   where
     done : Parsed n n 0 bs → (t : Tree n) × (bs ≡ flat n 0 t)
-    done p =
-        (
-          p .tree,
-          p .cut
+    done p = (
+      p .tree,
+      p .cut
           ∙ ap (λ x. flat n 0 (p .tree) ++ x) (covers-full n (0 + 4 ^ n) (p .rest) (omega arith) (p .covers))
-          ∙ append-nil (flat n 0 (p .tree))
-        )
+          ∙ append-nil (flat n 0 (p .tree)),
+    )
 
 -- A tree's list covers, with what covers the rest after it.
 pub covers-flat : (n m c : ℕ) (t : Tree m) (rest : List Block) → m ≤ n → 4 ^ m ∣ c → c + 4 ^ m ≤ 4 ^ n → Covers n (c + 4 ^ m) rest → Covers n c (flat m c t ++ rest)

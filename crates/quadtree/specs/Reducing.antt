@@ -1,16 +1,16 @@
 -- A tree is reduced exactly where cause 7 does not apply, and then no four sibling blocks of its list share a colour.
-use mathlib.Core.Path.{_≡_, refl, sym, ap, _∙_, subst}
+use mathlib.Core.Path.{_≡_, refl, sym, ap, _∙_}
 use mathlib.Core.Logic.{_⊎_, inl, inr, ⊎-elim}
-use mathlib.Core.Bool.{Bool, true, false, true≢false}
-use mathlib.Core.List.{List, [], _∷_, _++_, List·Memᴰ, List·Memᴰ·append-cases, List·Memᴰ·eq-of-singleton}
-use Prim.Native.Nat.{ℕ, zero, suc, _+_, _-_, _*_, _%_, _^_, _≤_, _<_, _∣_}
-use native.Mathlib.Nat.{dvd-trans, dvd-add, dvd-sub, dvd-zero, le-of-dvd, eq-or-lt-of-le, le-of-suc-le-suc, mod-eq-zero-of-dvd, dvd-of-mod-eq-zero}
+use mathlib.Core.Bool.{true, false, true≢false}
+use mathlib.Core.List.{List, [], _++_, List·Memᴰ, List·Memᴰ·append-cases, List·Memᴰ·eq-of-singleton}
+use Prim.Native.Nat.{ℕ, suc, _+_, _-_, _*_, _^_, _≤_, _<_, _∣_}
+use native.Mathlib.Nat.{dvd-trans, dvd-add, dvd-sub, le-of-dvd, eq-or-lt-of-le, le-of-suc-le-suc, mod-eq-zero-of-dvd}
 use native.Mathlib.Omega.{arith}
 use Rattle.sequences.specs.Powers.{pow4-pos, pow4-divides}
 use Rattle.quadtree.specs.Blocks.{Block}
 use Rattle.quadtree.specs.Number.{siblings}
 use Rattle.quadtree.specs.Painting.{block}
-use Rattle.quadtree.specs.Siblings.{Mergeable, Found, siblings-here, facts-mergeable, none-left, none-right}
+use Rattle.quadtree.specs.Siblings.{siblings-here, facts-mergeable, none-left, none-right}
 use Rattle.quadtree.specs.Trees.{Tree, leaf, node, flat, Reduced, flat-leaf, flat-node, quarters-divide}
 
 -- ---- where cause 7 does not apply, the tree is reduced
@@ -31,7 +31,7 @@ four-leaves n m c v p q r s below d ep eq er es =
       level-d = refl;
       colour-b = refl;
       colour-c = refl;
-      colour-d = refl
+      colour-d = refl;
     })))
 
 pub none-reduced : (n m c : ℕ) (t : Tree m) → m ≤ n → 4 ^ m ∣ c → siblings n (flat m c t) ≡ false → Reduced m t
@@ -45,13 +45,12 @@ none-reduced n (suc m) c (node p q r s) low d h =
     let ds = quarters-divide m c d in
     let h0 : siblings n (P ++ (Q ++ (R ++ S))) ≡ false = rw (flat-node m c p q r s) at h in
     let h1 : siblings n (Q ++ (R ++ S)) ≡ false = none-right n P (Q ++ (R ++ S)) h0 in
-    let h2 : siblings n (R ++ S) ≡ false = none-right n Q (R ++ S) h1 in
-    (
+    let h2 : siblings n (R ++ S) ≡ false = none-right n Q (R ++ S) h1 in (
       λ v ep eq er es. true≢false (sym (four-leaves n m c v p q r s (omega arith) d ep eq er es) ∙ h),
       none-reduced n m c p (omega arith) (ds .0) (none-left n P (Q ++ (R ++ S)) h0),
       none-reduced n m (c + 4 ^ m) q (omega arith) (ds .1) (none-left n Q (R ++ S) h1),
       none-reduced n m (c + 4 ^ m + 4 ^ m) r (omega arith) (ds .2) (none-left n R S h2),
-      none-reduced n m (c + 4 ^ m + 4 ^ m + 4 ^ m) s (omega arith) (ds .3) (none-right n R S h2)
+      none-reduced n m (c + 4 ^ m + 4 ^ m + 4 ^ m) s (omega arith) (ds .3) (none-right n R S h2),
     )
 
 -- ---- where the tree is reduced, no four siblings share a colour
@@ -97,10 +96,13 @@ flat-inside (suc m) c (node p q r s) b i =
 module _ (m c : ℕ) (p q r s : Tree m) (b : Block) where
   abbrev P : List Block
   P = flat m c p
+
   abbrev Q : List Block
   Q = flat m (c + 4 ^ m) q
+
   abbrev R : List Block
   R = flat m (c + 4 ^ m + 4 ^ m) r
+
   abbrev S : List Block
   S = flat m (c + 4 ^ m + 4 ^ m + 4 ^ m) s
 
@@ -151,10 +153,13 @@ siblings-fit m d l q dm below dq high =
 module _ (m c : ℕ) (p q r s : Tree m) (l k v : ℕ) (f : SiblingBlocks (flat (suc m) c (node p q r s)) l k v) where
   abbrev nw : Block
   nw = block k l v
+
   abbrev ne : Block
   ne = block (k + 4 ^ l) l v
+
   abbrev sw : Block
   sw = block (k + 2 * 4 ^ l) l v
+
   abbrev se : Block
   se = block (k + 3 * 4 ^ l) l v
 
@@ -164,12 +169,11 @@ module _ (m c : ℕ) (p q r s : Tree m) (l k v : ℕ) (f : SiblingBlocks (flat (
       let first : c ≤ k = flat-inside (suc m) c (node p q r s) nw (f .northwest) .starts in
       let last : k + 3 * 4 ^ l + 4 ^ l ≤ c + 4 ^ suc m = flat-inside (suc m) c (node p q r s) se (f .southeast) .ends in
       let here : k ≡ c = omega arith in
-      let pos : 0 < 4 ^ m = pow4-pos m in
-      (
+      let pos : 0 < 4 ^ m = pow4-pos m in (
         top-leaf m c p nw (in-first m c p q r s nw (omega arith) (f .northwest)) e,
         top-leaf m (c + 4 ^ m) q ne (in-second m c p q r s ne (omega arith) (omega arith) (f .northeast)) e,
         top-leaf m (c + 4 ^ m + 4 ^ m) r sw (in-third m c p q r s sw (omega arith) (omega arith) (f .southwest)) e,
-        top-leaf m (c + 4 ^ m + 4 ^ m + 4 ^ m) s se (in-fourth m c p q r s se (omega arith) (f .southeast)) e
+        top-leaf m (c + 4 ^ m + 4 ^ m + 4 ^ m) s se (in-fourth m c p q r s se (omega arith) (f .southeast)) e,
       )
 
   module _ (below : l < m) (dk : 4 ^ suc l ∣ k) where
@@ -185,7 +189,7 @@ module _ (m c : ℕ) (p q r s : Tree m) (l k v : ℕ) (f : SiblingBlocks (flat (
           northwest = j;
           northeast = in-first m c p q r s ne (omega arith) (f .northeast);
           southwest = in-first m c p q r s sw (omega arith) (f .southwest);
-          southeast = in-first m c p q r s se (omega arith) (f .southeast)
+          southeast = in-first m c p q r s se (omega arith) (f .southeast);
         }
 
     all-in-second : 4 ^ m ∣ c + 4 ^ m → List·Memᴰ nw (flat m (c + 4 ^ m) q) → SiblingBlocks (flat m (c + 4 ^ m) q) l k v
@@ -197,7 +201,7 @@ module _ (m c : ℕ) (p q r s : Tree m) (l k v : ℕ) (f : SiblingBlocks (flat (
           northwest = j;
           northeast = in-second m c p q r s ne (omega arith) (omega arith) (f .northeast);
           southwest = in-second m c p q r s sw (omega arith) (omega arith) (f .southwest);
-          southeast = in-second m c p q r s se (omega arith) (omega arith) (f .southeast)
+          southeast = in-second m c p q r s se (omega arith) (omega arith) (f .southeast);
         }
 
     all-in-third : 4 ^ m ∣ c + 4 ^ m + 4 ^ m → List·Memᴰ nw (flat m (c + 4 ^ m + 4 ^ m) r) → SiblingBlocks (flat m (c + 4 ^ m + 4 ^ m) r) l k v
@@ -209,7 +213,7 @@ module _ (m c : ℕ) (p q r s : Tree m) (l k v : ℕ) (f : SiblingBlocks (flat (
           northwest = j;
           northeast = in-third m c p q r s ne (omega arith) (omega arith) (f .northeast);
           southwest = in-third m c p q r s sw (omega arith) (omega arith) (f .southwest);
-          southeast = in-third m c p q r s se (omega arith) (omega arith) (f .southeast)
+          southeast = in-third m c p q r s se (omega arith) (omega arith) (f .southeast);
         }
 
     all-in-fourth : 4 ^ m ∣ c + 4 ^ m + 4 ^ m + 4 ^ m → List·Memᴰ nw (flat m (c + 4 ^ m + 4 ^ m + 4 ^ m) s) → SiblingBlocks (flat m (c + 4 ^ m + 4 ^ m + 4 ^ m) s) l k v
@@ -219,14 +223,14 @@ module _ (m c : ℕ) (p q r s : Tree m) (l k v : ℕ) (f : SiblingBlocks (flat (
           northwest = j;
           northeast = in-fourth m c p q r s ne (omega arith) (f .northeast);
           southwest = in-fourth m c p q r s sw (omega arith) (f .southwest);
-          southeast = in-fourth m c p q r s se (omega arith) (f .southeast)
+          southeast = in-fourth m c p q r s se (omega arith) (f .southeast);
         }
 
 -- In the list of a reduced square no four siblings share a colour.
-abbrev Unmerged : (m c : ℕ) → Tree m → Type 0
-Unmerged m c t = (l k v : ℕ) → l < m → 4 ^ suc l ∣ k → SiblingBlocks (flat m c t) l k v → ⊥
+abbrev UnmergedSquare : (m c : ℕ) → Tree m → Type 0
+UnmergedSquare m c t = (l k v : ℕ) → l < m → 4 ^ suc l ∣ k → SiblingBlocks (flat m c t) l k v → ⊥
 
-pub reduced-unmerged : (m c : ℕ) (t : Tree m) → Reduced m t → 4 ^ m ∣ c → Unmerged m c t
+pub reduced-unmerged : (m c : ℕ) (t : Tree m) → Reduced m t → 4 ^ m ∣ c → UnmergedSquare m c t
 unfolding Reduced
 reduced-unmerged m c (leaf w) h d l k v below dk f =
     absurd (omega (arith, ap (λ (b : Block). b .level) (List·Memᴰ·eq-of-singleton (rw (flat-leaf m c w) at (f .northwest)))))
@@ -236,7 +240,8 @@ reduced-unmerged (suc m) c (node p q r s) h d l k v below dk f =
   where
     ds : (4 ^ m ∣ c) × (4 ^ m ∣ c + 4 ^ m) × (4 ^ m ∣ c + 4 ^ m + 4 ^ m) × (4 ^ m ∣ c + 4 ^ m + 4 ^ m + 4 ^ m)
     ds = quarters-divide m c d
-    pick : Unmerged m c p → Unmerged m (c + 4 ^ m) q → Unmerged m (c + 4 ^ m + 4 ^ m) r → Unmerged m (c + 4 ^ m + 4 ^ m + 4 ^ m) s → (l ≡ m) ⊎ (l < m) → ⊥
+
+    pick : UnmergedSquare m c p → UnmergedSquare m (c + 4 ^ m) q → UnmergedSquare m (c + 4 ^ m + 4 ^ m) r → UnmergedSquare m (c + 4 ^ m + 4 ^ m + 4 ^ m) s → (l ≡ m) ⊎ (l < m) → ⊥
     pick ip iq ir is (inl e) = let leaves = are-quarters m c p q r s l k v f e in h .0 v (leaves .0) (leaves .1) (leaves .2) (leaves .3)
     pick ip iq ir is (inr less) =
         cases m c p q r s (block k l v)

@@ -2,8 +2,7 @@
 use mathlib.Core.Path.{_≡_, refl, sym, ap, _∙_}
 use mathlib.Core.Bool.{Bool, true, false, _&&_, false≢true, true≢false}
 use mathlib.Core.List.{List, [], _∷_, _++_}
-use Prim.Native.Nat.{ℕ, zero, suc, _+_, _*_, _%_, _^_, _≤_, _<_}
-use native.Mathlib.Omega.{arith}
+use Prim.Native.Nat.{ℕ, suc, _%_, _^_, _<_}
 use lib.Dec.{eqb, ltb}
 use borrow.Author.Tests.{ltb-true, eqb-true, lt-ltb, eq-eqb}
 use Rattle.quadtree.specs.Blocks.{Block}
@@ -42,14 +41,13 @@ mergeable-facts n a b c d h =
       level-d = eqb-true (d .level) (a .level) (h4 .0);
       colour-b = eqb-true (b .colour) (a .colour) (h5 .0);
       colour-c = eqb-true (c .colour) (a .colour) (h6 .0);
-      colour-d = eqb-true (d .colour) (a .colour) (h6 .1)
+      colour-d = eqb-true (d .colour) (a .colour) (h6 .1);
     }
 
 pub facts-mergeable : (n : ℕ) (a b c d : Block) → Mergeable n a b c d → mergeable n a b c d ≡ true
 unfolding mergeable
 facts-mergeable n a b c d m =
-    rw
-    (
+    rw (
       lt-ltb (a .level) n (m .below),
       eq-eqb (a .code % 4 ^ suc (a .level)) 0 (m .multiple),
       eq-eqb (b .level) (a .level) (m .level-b),
@@ -57,7 +55,7 @@ facts-mergeable n a b c d m =
       eq-eqb (d .level) (a .level) (m .level-d),
       eq-eqb (b .colour) (a .colour) (m .colour-b),
       eq-eqb (c .colour) (a .colour) (m .colour-c),
-      eq-eqb (d .colour) (a .colour) (m .colour-d)
+      eq-eqb (d .colour) (a .colour) (m .colour-d),
     )
 
 -- The two cases of the search.
@@ -122,7 +120,7 @@ found-later n x bs f = record {
   d = f .d;
   after = f .after;
   split = ap (λ (l : List Block). x ∷ l) (f .split);
-  facts = f .facts
+  facts = f .facts;
 }
 
 pub siblings-found : (n : ℕ) (bs : List Block) → siblings n bs ≡ true → Found n bs
@@ -142,6 +140,7 @@ found-siblings n bs f = pick (siblings n bs) refl
   where
     rest : List Block
     rest = f .a ∷ f .b ∷ f .c ∷ f .d ∷ f .after
+
     pick : (t : Bool) → siblings n bs ≡ t → siblings n bs ≡ true
     pick true e = e
     pick false e =

@@ -1,8 +1,8 @@
 -- In a covering list cause 7 applies exactly where four sibling blocks share a colour.
 use mathlib.Core.Path.{_≡_, refl, sym, ap, _∙_, subst}
 use mathlib.Core.Bool.{Bool, true, false}
-use mathlib.Core.List.{List, [], _∷_, _++_, List·Memᴰ, List·Memᴰ·head, List·Memᴰ·tail, Memᴰ·cast, Memᴰ·append-right}
-use Prim.Native.Nat.{ℕ, suc, _+_, _*_, _%_, _^_, _≤_, _<_}
+use mathlib.Core.List.{List, _∷_, List·Memᴰ, List·Memᴰ·head, List·Memᴰ·tail, Memᴰ·cast, Memᴰ·append-right}
+use Prim.Native.Nat.{ℕ, suc, _+_, _*_, _%_, _^_, _<_}
 use native.Mathlib.Nat.{dvd-zero, dvd-of-mod-eq-zero}
 use native.Mathlib.Omega.{arith}
 use Rattle.quadtree.specs.Blocks.{Block, pixels}
@@ -34,11 +34,11 @@ found-blocks n bs c f =
     record {
       northwest = back (f .a) (List·Memᴰ·head refl);
       northeast = Memᴰ·cast (λ i. record { code = eb i; level = sym (f .facts .level-b) i; colour = sym (f .facts .colour-b) i })
-        (back (f .b) (List·Memᴰ·tail (List·Memᴰ·head refl)));
+          (back (f .b) (List·Memᴰ·tail (List·Memᴰ·head refl)));
       southwest = Memᴰ·cast (λ i. record { code = ec i; level = sym (f .facts .level-c) i; colour = sym (f .facts .colour-c) i })
-        (back (f .c) (List·Memᴰ·tail (List·Memᴰ·tail (List·Memᴰ·head refl))));
+          (back (f .c) (List·Memᴰ·tail (List·Memᴰ·tail (List·Memᴰ·head refl))));
       southeast = Memᴰ·cast (λ i. record { code = ed i; level = sym (f .facts .level-d) i; colour = sym (f .facts .colour-d) i })
-        (back (f .d) (List·Memᴰ·tail (List·Memᴰ·tail (List·Memᴰ·tail (List·Memᴰ·head refl)))))
+          (back (f .d) (List·Memᴰ·tail (List·Memᴰ·tail (List·Memᴰ·tail (List·Memᴰ·head refl)))));
     }
 
 -- "no four sibling blocks share a colour" (document 01), wherever in the list they stand.
