@@ -1,15 +1,15 @@
 -- Lists that cover an image block by block: what number 0 of causes 3 to 6 says.
 use mathlib.Core.Path.{_≡_, refl, sym, ap, _∙_, subst}
-use mathlib.Core.Logic.{_↔_}
-use mathlib.Core.Bool.{Bool, true, false, not, _&&_, _||_, false≢true, true≢false}
-use mathlib.Core.List.{List, [], _∷_, _++_}
-use Prim.Native.Nat.{ℕ, zero, suc, _+_, _-_, _*_, _%_, _^_, _≤_, _<_, _∣_}
-use native.Mathlib.Nat.{dvd-sub, le-of-dvd, dvd-of-mod-eq-zero, mod-eq-zero-of-dvd}
+use mathlib.Core.Logic.{_↔_, _⊎_, inl, inr}
+use mathlib.Core.Bool.{Bool, true, false}
+use mathlib.Core.List.{List, [], _∷_, _++_, List·Memᴰ, List·Memᴰ·not-nil, List·Memᴰ·cases-cons}
+use Prim.Native.Nat.{ℕ, _+_, _-_, _%_, _^_, _≤_, _<_, _∣_}
+use native.Mathlib.Nat.{dvd-sub, le-of-dvd, dvd-of-mod-eq-zero}
 use native.Mathlib.Omega.{arith}
 use lib.Dec.{eqb, ltb}
 use borrow.Author.Tests.{ltb-true, ltb-false, eqb-true, eqb-false, lt-ltb, le-ltb, eq-eqb, ne-eqb}
-use Rattle.sequences.specs.Powers.{pow4-pos, pow4-divides}
-use Rattle.quadtree.specs.Blocks.{Block}
+use Rattle.sequences.specs.Powers.{pow4-divides}
+use Rattle.quadtree.specs.Blocks.{Block, pixels}
 use Rattle.quadtree.specs.Number.{cover}
 
 -- Where a block's code is a multiple of 4^level and lies in the image, the whole block does.
@@ -100,7 +100,7 @@ cover-zero n sum b bs most e = pick (ltb n (b .level)) (eqb (b .code) sum) (eqb 
           room = room;
           multiple = multiple;
           fits = omega (arith, block-fits n (b .level) (b .code) low (omega arith) multiple);
-          rest = sym (cover-more n sum b bs low here less multiple) ∙ e
+          rest = sym (cover-more n sum b bs low here less multiple) ∙ e;
         }
 
 pub covers-of-zero : (n sum : ℕ) (bs : List Block) → sum ≤ 4 ^ n → cover n sum bs ≡ 0 → Covers n sum bs
@@ -118,3 +118,43 @@ zero-of-covers n sum (b ∷ bs) c =
 
 pub cover-zero-exactly : (n sum : ℕ) (bs : List Block) → sum ≤ 4 ^ n → (cover n sum bs ≡ 0) ↔ Covers n sum bs
 cover-zero-exactly n sum bs most = (covers-of-zero n sum bs most, zero-of-covers n sum bs)
+
+-- ---- parts and members of a covering list
+
+pub covers-here : (n sum : ℕ) (b : Block) (bs : List Block) → Covers n sum (b ∷ bs) → sum + 4 ^ b .level ≤ 4 ^ n
+unfolding Covers
+covers-here n sum b bs c = omega (arith, block-fits n (b .level) (b .code) (c .0) (omega arith) (c .3))
+
+-- After a whole number of blocks the next code is the sum of their pixels.
+pub covers-rest : (n sum : ℕ) (xs ys : List Block) → Covers n sum (xs ++ ys) → Covers n (sum + pixels xs) ys
+unfolding Covers pixels
+covers-rest n sum [] ys c = let same : sum ≡ sum + 0 = omega arith in subst (λ x. Covers n x ys) same c
+covers-rest n sum (b ∷ xs) ys c =
+    let same : sum + 4 ^ b .level + pixels xs ≡ sum + (4 ^ b .level + pixels xs) = omega arith in
+    subst (λ x. Covers n x ys) same (covers-rest n (sum + 4 ^ b .level) xs ys (c .4))
+
+-- The blocks of a covering list have as many pixels as the image.
+pub pixels-covering : (n sum : ℕ) (bs : List Block) → Covers n sum bs → sum + pixels bs ≡ 4 ^ n
+unfolding Covers pixels
+pixels-covering n sum [] c = omega arith
+pixels-covering n sum (b ∷ bs) c = omega (arith, pixels-covering n (sum + 4 ^ b .level) bs (c .4))
+
+-- What holds of each block of a covering list.
+pub record Quadrant (n : ℕ) (b : Block) : Type 0 where
+  pub low : b .level ≤ n
+  pub multiple : b .code % 4 ^ b .level ≡ 0
+  pub fits : b .code + 4 ^ b .level ≤ 4 ^ n
+
+pub covers-member : (n sum : ℕ) (bs : List Block) (b : Block) → Covers n sum bs → List·Memᴰ b bs → (sum ≤ b .code) × Quadrant n b
+unfolding Covers
+covers-member n sum [] b c i = absurd (List·Memᴰ·not-nil i)
+covers-member n sum (a ∷ bs) b c i = pick (List·Memᴰ·cases-cons i) (covers-member n (sum + 4 ^ a .level) bs b (c .4))
+  where
+    pick : (b ≡ a) ⊎ List·Memᴰ b bs → (List·Memᴰ b bs → (sum + 4 ^ a .level ≤ b .code) × Quadrant n b) → (sum ≤ b .code) × Quadrant n b
+    pick (inl e) later =
+        let code : b .code ≡ sum = ap (λ (x : Block). x .code) e ∙ c .1 in
+        let level : 4 ^ b .level ≡ 4 ^ a .level = ap (λ (x : Block). 4 ^ x .level) e in (
+          omega arith,
+          subst (λ x. Quadrant n x) (sym e) (record { low = c .0; multiple = c .3; fits = omega (arith, covers-here n sum a bs c) }),
+        )
+    pick (inr j) later = (omega (arith, later j .0), later j .1)

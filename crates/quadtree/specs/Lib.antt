@@ -10,3 +10,9 @@ pub mod Painting
 pub mod Trees
 pub mod Parsing
 pub mod Merged
+pub mod Siblings
+pub mod Reducing
+pub mod Unmerged
+pub mod Fields
+pub mod Accepted
+pub mod Meaning

@@ -3,7 +3,7 @@ use mathlib.Core.Path.{_≡_, refl, sym, ap, _∙_}
 use mathlib.Core.Logic.{_↔_}
 use mathlib.Core.Bool.{Bool, true, false, false≢true}
 use mathlib.Core.List.{List, [], _∷_, _++_, append-assoc, append-nil}
-use Prim.Native.Nat.{ℕ, zero, suc, _+_, _-_, _*_, _^_, _≤_, _<_}
+use Prim.Native.Nat.{ℕ, zero, suc, _+_, _^_, _≤_, _<_}
 use native.Mathlib.Omega.{arith}
 use lib.ListN.{length, getD, take, drop, replicate, length-append, length-replicate, length-take, length-drop, getD-replicate}
 use lib.Seq.{ext-getD, getD-take, getD-drop, take-add, drop-drop, drop-cons, take-all}
@@ -53,7 +53,7 @@ quadrant-one px m c e = rw (e, quadrant)
 
 pub quadrant-four : (px : List ℕ) (m c : ℕ) → alike px (getD px c 0) c (4 ^ suc m) ≡ false
     → quadrant px (suc m) c
-      ≡ quadrant px m c ++ (quadrant px m (c + 4 ^ m) ++ (quadrant px m (c + 4 ^ m + 4 ^ m) ++ quadrant px m (c + 4 ^ m + 4 ^ m + 4 ^ m)))
+    ≡ quadrant px m c ++ (quadrant px m (c + 4 ^ m) ++ (quadrant px m (c + 4 ^ m + 4 ^ m) ++ quadrant px m (c + 4 ^ m + 4 ^ m + 4 ^ m)))
 unfolding quadrant
 quadrant-four px m c e = rw (e, quadrant)
 
@@ -63,6 +63,7 @@ quadrant-alike px v m c h = pick m h first
   where
     first : getD px c 0 ≡ v
     first = let here : c ≡ c + 0 = omega arith in ap (λ (j : ℕ). getD px j 0) here ∙ alike-each px v c (4 ^ m) h 0 (pow4-pos m)
+
     pick : (m : ℕ) → alike px v c (4 ^ m) ≡ true → getD px c 0 ≡ v → quadrant px m c ≡ block c m v ∷ []
     pick zero h e = quadrant-pixel px c ∙ ap (λ (k : ℕ). block c 0 k ∷ []) e
     pick (suc m) h e =
@@ -111,12 +112,12 @@ alike-stretch px v c k room h =
     ext-getD 0 (replicate k v) (take k (drop c px))
     (simp (length-replicate, length-take, length-drop) (omega arith))
     (λ i l. let small : i < k = omega (arith, length-replicate k v) in
-      getD-replicate k i v 0 small ∙ sym (getD-take k (drop c px) i 0 small ∙ getD-drop c px i 0 ∙ alike-each px v c k h i small))
+    getD-replicate k i v 0 small ∙ sym (getD-take k (drop c px) i 0 small ∙ getD-drop c px i 0 ∙ alike-each px v c k h i small))
 
 -- Four stretches one after the other are one.
 four-stretches : (px : List ℕ) (q c : ℕ)
     → take q (drop c px) ++ (take q (drop (c + q) px) ++ (take q (drop (c + q + q) px) ++ take q (drop (c + q + q + q) px)))
-      ≡ take (q + (q + (q + q))) (drop c px)
+    ≡ take (q + (q + (q + q))) (drop c px)
 four-stretches px q c =
     rw (take-add q (q + (q + q)) (drop c px), drop-drop q c px, take-add q (q + q) (drop (c + q) px), drop-drop q (c + q) px, take-add q q (drop (c + q + q) px), drop-drop q (c + q + q) px)
 
@@ -135,8 +136,8 @@ paint-quadrant px (suc m) c room = pick (alike px (getD px c 0) c (4 ^ suc m)) r
         let sum : 4 ^ m + (4 ^ m + (4 ^ m + 4 ^ m)) ≡ 4 ^ suc m = omega arith in
         ap paint (quadrant-four px m c e)
         ∙ simp paint-append
-          (rw (ih c (omega arith), ih (c + 4 ^ m) (omega arith), ih (c + 4 ^ m + 4 ^ m) (omega arith), ih (c + 4 ^ m + 4 ^ m + 4 ^ m) (omega arith))
-          (four-stretches px (4 ^ m) c ∙ ap (λ (k : ℕ). take k (drop c px)) sum))
+        (rw (ih c (omega arith), ih (c + 4 ^ m) (omega arith), ih (c + 4 ^ m + 4 ^ m) (omega arith), ih (c + 4 ^ m + 4 ^ m + 4 ^ m) (omega arith))
+        (four-stretches px (4 ^ m) c ∙ ap (λ (k : ℕ). take k (drop c px)) sum))
 
 pub paint-quadtree : (n : ℕ) (px : List ℕ) → length px ≡ 4 ^ n → paint (quadtree n px) ≡ px
 unfolding quadtree

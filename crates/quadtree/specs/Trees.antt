@@ -2,11 +2,12 @@
 use mathlib.Core.Path.{_≡_, refl, sym, ap, _∙_}
 use mathlib.Core.Bool.{Bool, true, false}
 use mathlib.Core.List.{List, [], _∷_, _++_, head-eq-of-cons-eq}
-use Prim.Native.Nat.{ℕ, zero, suc, _+_, _-_, _*_, _^_, _≤_, _<_}
+use Prim.Native.Nat.{ℕ, suc, _+_, _-_, _^_, _≤_, _<_, _∣_}
+use native.Mathlib.Nat.{dvd-refl, dvd-add, dvd-trans}
 use native.Mathlib.Omega.{arith}
 use lib.ListN.{length, getD, replicate, length-append, length-replicate, getD-replicate, List·getD-append}
 use lib.Seq.{getD-append-add}
-use Rattle.sequences.specs.Powers.{pow4-pos}
+use Rattle.sequences.specs.Powers.{pow4-divides}
 use Rattle.quadtree.specs.Blocks.{Block, pixels, paint}
 use Rattle.quadtree.specs.Quadtree.{alike, quadrant, quadtree}
 use Rattle.quadtree.specs.Painting.{block, alike-each, each-alike, quadrant-alike, quadrant-four, paint-append, pixels-append, length-paint, paint-block, pixels-block}
@@ -20,6 +21,15 @@ pub data Tree : ℕ → Type 0 where
 unfoldable pub flat : (n : ℕ) → ℕ → Tree n → List Block
 flat n c (leaf v) = block c n v ∷ []
 flat (suc n) c (node p q r s) = flat n c p ++ (flat n (c + 4 ^ n) q ++ (flat n (c + 4 ^ n + 4 ^ n) r ++ flat n (c + 4 ^ n + 4 ^ n + 4 ^ n) s))
+
+-- The codes of a square's quarters.
+pub quarters-divide : (m c : ℕ) → 4 ^ suc m ∣ c → (4 ^ m ∣ c) × (4 ^ m ∣ c + 4 ^ m) × (4 ^ m ∣ c + 4 ^ m + 4 ^ m) × (4 ^ m ∣ c + 4 ^ m + 4 ^ m + 4 ^ m)
+quarters-divide m c d =
+    let w : 4 ^ m ∣ 4 ^ m = dvd-refl (4 ^ m) in
+    let d0 : 4 ^ m ∣ c = dvd-trans (4 ^ m) (pow4-divides (omega arith)) d in
+    let d1 : 4 ^ m ∣ c + 4 ^ m = dvd-add (4 ^ m) d0 w in
+    let d2 : 4 ^ m ∣ c + 4 ^ m + 4 ^ m = dvd-add (4 ^ m) d1 w in
+    (d0, d1, d2, dvd-add (4 ^ m) d2 w)
 
 -- No node has four leaves of one colour.
 unfoldable pub Reduced : (n : ℕ) → Tree n → Type 0
@@ -101,7 +111,7 @@ module _ (n c : ℕ) (p q r s : Tree n) (px : List ℕ) where
       let h1 : Shows px (c + 4 ^ n) (Q ++ (R ++ S)) = shows-right px P (Q ++ (R ++ S)) c (c + 4 ^ n) (omega (arith, long c p)) h0 in
       let h2 : Shows px (c + 4 ^ n + 4 ^ n) (R ++ S) = shows-right px Q (R ++ S) (c + 4 ^ n) (c + 4 ^ n + 4 ^ n) (omega (arith, long (c + 4 ^ n) q)) h1 in
       let h3 : Shows px (c + 4 ^ n + 4 ^ n + 4 ^ n) S =
-        shows-right px R S (c + 4 ^ n + 4 ^ n) (c + 4 ^ n + 4 ^ n + 4 ^ n) (omega (arith, long (c + 4 ^ n + 4 ^ n) r)) h2 in
+      shows-right px R S (c + 4 ^ n + 4 ^ n) (c + 4 ^ n + 4 ^ n + 4 ^ n) (omega (arith, long (c + 4 ^ n + 4 ^ n) r)) h2 in
       (shows-left px P (Q ++ (R ++ S)) c h0, shows-left px Q (R ++ S) (c + 4 ^ n) h1, shows-left px R S (c + 4 ^ n + 4 ^ n) h2, h3)
 
   -- A quarter of a square of one colour is a leaf.
