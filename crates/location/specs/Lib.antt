@@ -5,3 +5,4 @@ pub mod Levels
 pub mod Splitting
 pub mod Squares
 pub mod TopLevels
+pub mod Spreading

@@ -1,18 +1,14 @@
--- A shift by twice the level: 2^(2l) is 4^l, which fits for l below 32.
-use borrow.Author.Needs.{needs}
-use borrow.Author.Tests.{lt-ltb, le-ltb}
-use mathlib.Core.Path.{_≡_, refl, sym, ap, _∙_}
-use Prim.Native.Nat.{ℕ, _+_, _*_, _%_, _^_}
+-- A shift of 1 by 2 * l below 64 loses nothing, and 2 ^ (2 * l) is 4 ^ l.
+use mathlib.Core.Path.{_∙_, sym}
 use native.Mathlib.Omega.{arith}
+use native.Mathlib.Nat.{one-mul}
+use Prim.Native.Nat.{_*_, _^_}
+use borrow.Author.Needs.{needs}
 use lib.Pow.{shl-exact}
 use Rattle.sequences.specs.Powers.{pow2-double}
-use Rattle.location.specs.Levels.{pixelsOf}
+use Rattle.location.specs.Levels.{pixels-are-power, pixels-above}
 use Rattle.location.proofs.pixels.Statement.{statement}
 use Rattle.location.proofs.pixels.Tie as tie
-
-returns : tie.Need-returns
-unfolding pixelsOf
-returns c = rw (le-ltb _ _ (c .if1 .taken), pixelsOf)
 
 mul-result : tie.Need-mul-result
 mul-result c = search needs
@@ -23,11 +19,13 @@ cast-result c = search needs
 shl-result : tie.Need-shl-result
 shl-result c = search needs
 
-returns-2 : tie.Need-returns-2
-unfolding pixelsOf
-returns-2 c =
+returns : tie.Need-returns
+returns c =
     let l = c .before .args .l in
-    rw (lt-ltb _ _ (c .if1 .left), pixelsOf) (shl-exact {a = 1} 1 (2 * l) 64 (omega arith) (omega arith) ∙ omega arith ∙ pow2-double l)
+    shl-exact {a = 1} 1 (2 * l) 64 (omega arith) (omega arith) ∙ one-mul (2 ^ (2 * l)) ∙ pow2-double l ∙ sym (pixels-are-power l (c .if1 .taken))
+
+returns-2 : tie.Need-returns-2
+returns-2 c = sym (pixels-above (c .before .args .l) (c .if1 .left))
 
 pub pixels-spec : {M : Type 1} → statement M
-pixels-spec = tie.close (tie.spec returns mul-result cast-result shl-result returns-2)
+pixels-spec = tie.close (tie.spec mul-result cast-result shl-result returns returns-2)

@@ -1,0 +1,26 @@
+-- The digits spread in two halves; each half is below 4 to its number of digits, so the sum fits.
+use Prim.Native.Nat.{_/_}
+use borrow.Author.Needs.{needs}
+use native.Mathlib.Omega.{arith}
+use Rattle.location.specs.Interleaving.{code-below}
+use Rattle.location.specs.Spreading.{spread-halves}
+use Rattle.location.proofs.spread8.Statement.{statement}
+use Rattle.location.proofs.spread8.Tie as tie
+
+spread4-requires : tie.Need-spread4-requires
+spread4-requires c κs = search needs
+
+spread4-requires-2 : tie.Need-spread4-requires-2
+spread4-requires-2 c κs = search needs
+
+mul-result : tie.Need-mul-result
+mul-result c = omega (arith, code-below 4 (c .before .before .args .x / 16) 0)
+
+add-result : tie.Need-add-result
+add-result c = omega (arith, code-below 4 (c .before .before .args .x) 0, code-below 4 (c .before .before .args .x / 16) 0)
+
+returns : tie.Need-returns
+returns c = omega (arith, spread-halves 4 (c .before .before .args .x))
+
+pub spread8-spec : {M : Type 1} → statement M
+spread8-spec = tie.close (tie.spec spread4-requires spread4-requires-2 mul-result add-result returns)
