@@ -1,7 +1,7 @@
 -- What the functions on block lists promise, and the laws their loops follow.
 pub mod Lists
-pub mod Pixels
 pub mod Alignment
 pub mod Covering
 pub mod Siblings
 pub mod Checking
+pub mod Squares

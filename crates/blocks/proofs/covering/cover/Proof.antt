@@ -1,6 +1,6 @@
 use Rattle.sequences.specs.Powers.{pow4-mono}
 use Rattle.location.specs.Levels.{pixelsOf}
-use Rattle.blocks.specs.Pixels.{pixels-of-level}
+use Rattle.location.specs.Levels.{pixels-are-power}
 use Rattle.quadtree.specs.Number.{cover}
 use mathlib.Core.Path.{_≡_, refl, sym, ap, _∙_}
 use mathlib.Core.Logic.{⊎-elim}
@@ -32,7 +32,7 @@ room : (c : tie.After-pixels2 Inv-loop μ-loop) → Fitting (c .before .before .
 room c = fitting _ _ _ _ (c .before .before .before .before .before .before .loop .inv .most) (none c)
 
 grown : (c : tie.After-pixels2 Inv-loop μ-loop) → c .pixels2 .result ≡ 4 ^ getD (c .before .before .before .before .before .before .before .before .before .before .args .levels .now) (c .before .before .before .before .before .before .loop .i) 0
-grown c = c .pixels2 .ensures ∙ pixels-of-level _ (omega (arith, room c, c .before .before .before .before .before .before .before .before .before .before .pre .0))
+grown c = c .pixels2 .ensures ∙ pixels-are-power _ (omega (arith, room c, c .before .before .before .before .before .before .before .before .before .before .pre .0))
 
 -- src/covering.rt:35:9
 pixels-requires : tie.Need-pixels-requires Inv-loop μ-loop
@@ -60,7 +60,7 @@ shared-slice-read-block-fault c = search needs
 
 -- src/covering.rt:40:13
 block-fault-requires : tie.Need-block-fault-requires Inv-loop μ-loop
-block-fault-requires c κs = c .before .before .before .before .pixels .ensures ∙ pixels-of-level (c .before .before .before .before .before .before .before .args .n) (omega (arith, c .before .before .before .before .before .before .before .pre .0))
+block-fault-requires c κs = c .before .before .before .before .pixels .ensures ∙ pixels-are-power (c .before .before .before .before .before .before .before .args .n) (omega (arith, c .before .before .before .before .before .before .before .pre .0))
 
 -- src/covering.rt:42:13
 returns : tie.Need-returns Inv-loop μ-loop
@@ -88,11 +88,11 @@ loop-again c = let e = grown c in rw e (passed-more (c .before .before .before .
 
 -- src/covering.rt:48:9
 returns-2 : tie.Need-returns-2 Inv-loop μ-loop
-returns-2 c = λ colours k. passed-short (c .before .before .before .before .before .before .pre .1) (c .before .before .loop .inv) (c .before .loop-test .left) (omega (arith, c .before .before .before .pixels .ensures, pixels-of-level (c .before .before .before .before .before .before .args .n) (omega (arith, c .before .before .before .before .before .before .pre .0)), c .if2 .taken)) colours k
+returns-2 c = λ colours k. passed-short (c .before .before .before .before .before .before .pre .1) (c .before .before .loop .inv) (c .before .loop-test .left) (omega (arith, c .before .before .before .pixels .ensures, pixels-are-power (c .before .before .before .before .before .before .args .n) (omega (arith, c .before .before .before .before .before .before .pre .0)), c .if2 .taken)) colours k
 
 -- src/covering.rt:31:1
 returns-3 : tie.Need-returns-3 Inv-loop μ-loop
-returns-3 c = λ colours k. passed-all (c .before .before .before .before .before .before .pre .1) (c .before .before .loop .inv) (c .before .loop-test .left) (omega (arith, c .before .before .before .pixels .ensures, pixels-of-level (c .before .before .before .before .before .before .args .n) (omega (arith, c .before .before .before .before .before .before .pre .0)), c .if2 .left)) colours k
+returns-3 c = λ colours k. passed-all (c .before .before .before .before .before .before .pre .1) (c .before .before .loop .inv) (c .before .loop-test .left) (omega (arith, c .before .before .before .pixels .ensures, pixels-are-power (c .before .before .before .before .before .before .args .n) (omega (arith, c .before .before .before .before .before .before .pre .0)), c .if2 .left)) colours k
 
 pub cover-spec : {M : Type 1} → statement M
 cover-spec =

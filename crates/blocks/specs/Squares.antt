@@ -1,0 +1,99 @@
+-- Squares of a raster that have one colour, row by row and by codes.
+use mathlib.Core.Path.{_≡_, refl, sym, ap, ap₂, _∙_, subst}
+use mathlib.Core.Logic.{_↔_}
+use mathlib.Core.Bool.{Bool, true, false, false≢true}
+use mathlib.Core.List.{List}
+use Prim.Native.Nat.{ℕ, zero, suc, _+_, _-_, _*_, _%_, _^_, _≤_, _<_}
+use native.Mathlib.Nat.{add-mul}
+use native.Mathlib.Omega.{arith}
+use lib.ListN.{length, getD}
+use Rattle.sequences.specs.Cases.{same-test}
+use Rattle.location.specs.Codes.{column, row}
+use Rattle.location.specs.Squares.{square-in-image, for-block-for-square}
+use Rattle.quadtree.specs.Quadtree.{alike}
+use Rattle.quadtree.specs.Painting.{alike-each, each-alike}
+use Rattle.quadtree.specs.Raster.{place, inCodeOrder}
+use Rattle.quadtree.specs.Orders.{in-code-order-at}
+
+-- Whether k rows of s pixels from the place `at` on, in a raster of rows of w, have the colour v.
+unfoldable pub rowsAlike : List ℕ → ℕ → ℕ → ℕ → ℕ → ℕ → Bool
+unfolding alike
+rowsAlike raster v w at s zero = true
+rowsAlike raster v w at s (suc k) = elim (alike raster v at s) [ true ↦ rowsAlike raster v w (at + w) s k | false ↦ false ]
+
+pub rows-alike-row : (raster : List ℕ) (v w at s k : ℕ) → alike raster v at s ≡ true → rowsAlike raster v w at s (suc k) ≡ rowsAlike raster v w (at + w) s k
+unfolding rowsAlike
+rows-alike-row raster v w at s k h = rw (h, rowsAlike)
+
+pub rows-alike-stop : (raster : List ℕ) (v w at s k : ℕ) → alike raster v at s ≡ false → rowsAlike raster v w at s (suc k) ≡ false
+unfolding rowsAlike
+rows-alike-stop raster v w at s k h = rw (h, rowsAlike)
+
+pub rows-alike-none : (raster : List ℕ) (v w at s : ℕ) → rowsAlike raster v w at s 0 ≡ true
+unfolding rowsAlike
+rows-alike-none raster v w at s = refl
+
+-- Every pixel of the rows has the colour.
+rows-each : (raster : List ℕ) (v w at s k : ℕ) → rowsAlike raster v w at s k ≡ true
+    → (x y : ℕ) → x < s → y < k → getD raster (at + y * w + x) 0 ≡ v
+rows-each raster v w at s zero h x y a b = absurd (omega arith)
+rows-each raster v w at s (suc k) h x y a b = by (alike raster v at s) refl y b (rows-each raster v w (at + w) s k)
+  where
+    by : (t : Bool) → alike raster v at s ≡ t → (y : ℕ) → y < suc k
+        → (rowsAlike raster v w (at + w) s k ≡ true → (x y : ℕ) → x < s → y < k → getD raster (at + w + y * w + x) 0 ≡ v)
+        → getD raster (at + y * w + x) 0 ≡ v
+    by false e y b ih = absurd (false≢true (sym (rows-alike-stop raster v w at s k e) ∙ h))
+    by true e zero b ih =
+        let z : at + 0 * w + x ≡ at + x = omega arith in
+        ap (λ (i : ℕ). getD raster i 0) z ∙ alike-each raster v at s e x a
+    by true e (suc y) b ih =
+        let z : at + suc y * w + x ≡ at + w + y * w + x = omega (arith, add-mul y 1 w) in
+        ap (λ (i : ℕ). getD raster i 0) z ∙ ih (sym (rows-alike-row raster v w at s k e) ∙ h) x y a (omega arith)
+
+each-rows : (raster : List ℕ) (v w at s k : ℕ) → ((x y : ℕ) → x < s → y < k → getD raster (at + y * w + x) 0 ≡ v)
+    → rowsAlike raster v w at s k ≡ true
+each-rows raster v w at s zero h = rows-alike-none raster v w at s
+each-rows raster v w at s (suc k) h =
+    rows-alike-row raster v w at s k (each-alike raster v at s (λ i l.
+      let z : at + i ≡ at + 0 * w + i = omega arith in
+      ap (λ (j : ℕ). getD raster j 0) z ∙ h i 0 l (omega arith)))
+    ∙ each-rows raster v w (at + w) s k (λ x y a b.
+      let z : at + w + y * w + x ≡ at + suc y * w + x = omega (arith, add-mul y 1 w) in
+      ap (λ (j : ℕ). getD raster j 0) z ∙ h x (suc y) a (omega arith))
+
+-- The square of a block has one colour exactly where the block's codes have.
+module _ (n l c : ℕ) (level : l ≤ n) (inside : c < 4 ^ n) (multiple : c % 4 ^ l ≡ 0) (raster : List ℕ) (v : ℕ) where
+  px : List ℕ
+  px = inCodeOrder n raster
+
+  Painted : ℕ → ℕ → Type 0
+  Painted x y = getD raster (y * 2 ^ n + x) 0 ≡ v
+
+  by-code : ((i : ℕ) → i < 4 ^ l → getD px (c + i) 0 ≡ v) → (d : ℕ) → c ≤ d → d < c + 4 ^ l → Painted (column n d) (row n d)
+  unfolding px Painted place
+  by-code h d a b =
+      let z : c + (d - c) ≡ d = omega arith in
+      sym (in-code-order-at n raster d (omega (arith, square-in-image n l c level inside multiple)))
+      ∙ ap (λ (e : ℕ). getD px e 0) (sym z) ∙ h (d - c) (omega arith)
+
+  by-pixel : ((x y : ℕ) → x < 2 ^ l → y < 2 ^ l → getD raster (place n c + y * 2 ^ n + x) 0 ≡ v)
+      → (x y : ℕ) → column n c ≤ x → x < column n c + 2 ^ l → row n c ≤ y → y < row n c + 2 ^ l → Painted x y
+  unfolding Painted place
+  by-pixel h x y a b d e =
+      let y′ : ℕ = y - row n c in
+      let x′ : ℕ = x - column n c in
+      let ey : y ≡ row n c + y′ = omega arith in
+      let z : y * 2 ^ n + x ≡ row n c * 2 ^ n + column n c + y′ * 2 ^ n + x′ =
+        omega (arith, ap (λ (t : ℕ). t * 2 ^ n) ey, add-mul (row n c) y′ (2 ^ n)) in
+      ap (λ (i : ℕ). getD raster i 0) z ∙ h x′ y′ (omega arith) (omega arith)
+
+  pub square-alike : rowsAlike raster v (2 ^ n) (place n c) (2 ^ l) (2 ^ l) ≡ alike (inCodeOrder n raster) v c (4 ^ l)
+  unfolding px Painted place
+  square-alike =
+      same-test (rowsAlike raster v (2 ^ n) (place n c) (2 ^ l) (2 ^ l)) (alike (inCodeOrder n raster) v c (4 ^ l)) to from
+    where
+      both = for-block-for-square n l c level inside multiple Painted
+      to : rowsAlike raster v (2 ^ n) (place n c) (2 ^ l) (2 ^ l) ≡ true → alike (inCodeOrder n raster) v c (4 ^ l) ≡ true
+      to h = each-alike px v c (4 ^ l) (λ i k. ?)
+      from : alike (inCodeOrder n raster) v c (4 ^ l) ≡ true → rowsAlike raster v (2 ^ n) (place n c) (2 ^ l) (2 ^ l) ≡ true
+      from h = each-rows raster v (2 ^ n) (place n c) (2 ^ l) (2 ^ l) (λ x y a b. ?)
