@@ -1,0 +1,3 @@
+-- The staircase of the pixels done, and its border.
+pub mod Staircase
+pub mod FirstBlocks
