@@ -1,19 +1,19 @@
 -- The pixels of the first k blocks of an accepted list, and the staircase that they form.
 use mathlib.Core.Path.{_≡_, refl, sym, ap, _∙_, subst}
 use mathlib.Core.Logic.{_⊎_, inl, inr, ⊎-elim, _↔_}
-use mathlib.Core.Bool.{Bool, true, false, not, _||_, true≢false, false≢true}
+use mathlib.Core.Bool.{Bool, true, false, not, _&&_, _||_, true≢false, false≢true}
 use mathlib.Core.List.{List, [], _∷_, List·Memᴰ, List·Memᴰ·head, List·Memᴰ·tail, List·Memᴰ·cases-cons, List·Memᴰ·not-nil}
 use Prim.Native.Nat.{ℕ, zero, suc, _+_, _%_, _^_, _≤_, _<_}
 use native.Mathlib.Decide.{decLt}
 use native.Mathlib.Omega.{arith}
 use lib.Dec.{ltb, eqb}
-use lib.ListN.{take}
+use lib.ListN.{length, take}
 use borrow.Author.Tests.{ltb-true, ltb-false, eqb-true, eqb-false, lt-ltb, le-ltb}
 use Rattle.sequences.specs.Cases.{first, when, first-zero}
 use Rattle.sequences.specs.Powers.{pow4-pos}
 use Rattle.location.specs.Codes.{code}
 use Rattle.quadtree.specs.Blocks.{Block, blocks, pixels}
-use Rattle.quadtree.specs.Number.{cover, number}
+use Rattle.quadtree.specs.Number.{cover, siblings, number}
 use Rattle.staircase.specs.Staircase.{done, done-west, done-north, done-inside, pixel-done, code-grows, staircase, DonePixel}
 
 -- The code c is one of a block's pixels: they have the codes from the block's own on, 4^level in all.
@@ -78,3 +78,56 @@ blocks-in n (suc k) sum (b ∷ bs) c h a l = pick (next-code n sum b bs h) (bloc
 -- A code lies in one of the first k blocks exactly when it is below the number of their pixels.
 pub in-first-blocks : (n k : ℕ) (bs : List Block) (c : ℕ) → cover n 0 bs ≡ 0 → InOneOf (take k bs) c ↔ (c < pixels (take k bs))
 in-first-blocks n k bs c h = (λ i. omega (arith, in-blocks n k 0 bs c h i), λ l. blocks-in n k 0 bs c h (omega arith) (omega arith))
+
+pub accepted-covers : (n : ℕ) (codes levels colours : List ℕ) → number n codes levels colours ≡ 0 → cover n 0 (blocks codes levels colours) ≡ 0
+unfolding number
+accepted-covers n codes levels colours h =
+    let merged : ℕ = when (siblings n (blocks codes levels colours)) 7 in
+    let covered : ℕ = first (cover n 0 (blocks codes levels colours)) merged in
+    let unlike : ℕ = when (not (eqb (length codes) (length levels) && eqb (length levels) (length colours))) 2 in
+    let lists : first unlike covered ≡ 0 = first-zero (when (ltb 8 n) 1) (first unlike covered) h .1 in
+    first-zero (cover n 0 (blocks codes levels colours)) merged (first-zero unlike covered lists .1) .0
+
+-- A cell of the image with a margin is done after these blocks: north and west of the image always, in the image where one of
+-- the blocks holds the pixel, south and east of it never (document 01, "Regions").
+unfoldable pub Done : ℕ → List Block → ℕ → ℕ → Type 0
+Done n bs zero row = Unit
+Done n bs (suc x) zero = Unit
+Done n bs (suc x) (suc y) = (x < 2 ^ n) × (y < 2 ^ n) × InOneOf bs (code n x y)
+
+-- The test `done` decides it.
+pub done-exactly : (n k : ℕ) (bs : List Block) → cover n 0 bs ≡ 0 → (column row : ℕ)
+    → Done n (take k bs) column row ↔ (done n (pixels (take k bs)) column row ≡ true)
+unfolding Done
+done-exactly n k bs h zero row = (λ _. done-west n (pixels (take k bs)) row, λ _. tt)
+done-exactly n k bs h (suc x) zero = (λ _. done-north n (pixels (take k bs)) (suc x), λ _. tt)
+done-exactly n k bs h (suc x) (suc y) = (tested, told)
+  where
+    tested : (x < 2 ^ n) × (y < 2 ^ n) × InOneOf (take k bs) (code n x y) → done n (pixels (take k bs)) (suc x) (suc y) ≡ true
+    tested t =
+        pixel-done n (pixels (take k bs)) x y
+        (record { inColumn = t .0; inRow = t .1; below = in-first-blocks n k bs (code n x y) h .0 (t .2) })
+    told : done n (pixels (take k bs)) (suc x) (suc y) ≡ true → (x < 2 ^ n) × (y < 2 ^ n) × InOneOf (take k bs) (code n x y)
+    told e =
+        let p : DonePixel n (pixels (take k bs)) x y = done-inside n (pixels (take k bs)) x y e in
+        (p .inColumn, p .inRow, in-first-blocks n k bs (code n x y) h .1 (p .below))
+
+-- "After any whole number of blocks of an accepted list, the pixels done form a staircase: with a pixel (x, y), every pixel
+-- whose x and y are both no larger is done too" (document 01, "Regions").
+pub pixels-done-form-a-staircase : (n : ℕ) (codes levels colours : List ℕ) → number n codes levels colours ≡ 0
+    → (k x y x′ y′ : ℕ) → x < 2 ^ n → y < 2 ^ n → x′ ≤ x → y′ ≤ y
+    → InOneOf (take k (blocks codes levels colours)) (code n x y) → InOneOf (take k (blocks codes levels colours)) (code n x′ y′)
+pixels-done-form-a-staircase n codes levels colours accepted k x y x′ y′ p q a b i =
+    let bs : List Block = blocks codes levels colours in
+    let h : cover n 0 bs ≡ 0 = accepted-covers n codes levels colours accepted in
+    let l : code n x y < pixels (take k bs) = in-first-blocks n k bs (code n x y) h .0 i in
+    in-first-blocks n k bs (code n x′ y′) h .1 (omega (arith, code-grows n x y x′ y′ a b p q))
+
+-- The same with what lies around the image.
+pub cells-done-form-a-staircase : (n : ℕ) (codes levels colours : List ℕ) → number n codes levels colours ≡ 0
+    → (k column row column′ row′ : ℕ) → column′ ≤ column → row′ ≤ row
+    → Done n (take k (blocks codes levels colours)) column row → Done n (take k (blocks codes levels colours)) column′ row′
+cells-done-form-a-staircase n codes levels colours accepted k column row column′ row′ a b t =
+    let bs : List Block = blocks codes levels colours in
+    let same = done-exactly n k bs (accepted-covers n codes levels colours accepted) in
+    same column′ row′ .1 (staircase n (pixels (take k bs)) column row column′ row′ a b (same column row .0 t))
