@@ -1,6 +1,6 @@
 -- The border between done and not done is one path of 2 times 2^n unit edges.
 use mathlib.Core.Path.{_≡_, refl, sym, ap, _∙_}
-use mathlib.Core.Logic.{_⊎_, inl, inr, _↔_, _≢_}
+use mathlib.Core.Logic.{_⊎_, inl, inr, ⊎-elim, _↔_, _≢_}
 use mathlib.Core.Bool.{Bool, true, false, true≢false, false≢true}
 use mathlib.Core.List.{List, List·Memᴰ}
 use Prim.Native.Nat.{ℕ, _*_, _^_, _≤_, _<_}
@@ -25,20 +25,43 @@ pub border-is-one-path : (n d : ℕ) → OnePath (2 ^ n) (Border (2 ^ n) (done n
 unfolding border
 border-is-one-path n d = walk-is-the-border (2 ^ n) (done n d) (done-is-stairs n d)
 
--- One of two cells is done after these blocks, and the other is not.
-abbrev pub OnlyOneDone : ℕ → List Block → Cell → Cell → Type 0
-OnlyOneDone n bs a b = (Done n bs (a .column) (a .row) × ¬ Done n bs (b .column) (b .row)) ⊎ ((¬ Done n bs (a .column) (a .row)) × Done n bs (b .column) (b .row))
+-- One of two statements holds and the other does not.
+abbrev pub OnlyOne : Type 0 → Type 0 → Type 0
+OnlyOne P Q = (P × ¬ Q) ⊎ ((¬ P) × Q)
 
--- A side of the image is on the border after these blocks.
+only-one-tests : (P Q : Type 0) (s t : Bool) → P ↔ (s ≡ true) → Q ↔ (t ≡ true) → OnlyOne P Q ↔ (s ≢ t)
+only-one-tests P Q true true p q =
+    (λ o. absurd (⊎-elim (λ (a : P × ¬ Q). a .1 (q .1 refl)) (λ (b : (¬ P) × Q). b .0 (p .1 refl)) o), λ d. absurd (d refl))
+only-one-tests P Q true false p q = (λ o. true≢false, λ d. inl (p .1 refl, λ b. false≢true (q .0 b)))
+only-one-tests P Q false true p q = (λ o. false≢true, λ d. inr (λ a. false≢true (p .0 a), q .1 refl))
+only-one-tests P Q false false p q =
+    (λ o. absurd (⊎-elim (λ (a : P × ¬ Q). false≢true (p .0 (a .0))) (λ (b : (¬ P) × Q). false≢true (q .0 (b .1))) o), λ d. absurd (d refl))
+
+-- A side of the image is on the border after these blocks: of the two cells beside it one is done and the other is not.
 pub record BorderAfter (n : ℕ) (bs : List Block) (e : Edge) : Type 0 where
   pub side : SideOf (2 ^ n) e
-  pub onlyOne : OnlyOneDone n bs (leftCell e) (rightCell e)
+  pub onlyOne : OnlyOne (Done n bs (leftCell e .column) (leftCell e .row)) (Done n bs (rightCell e .column) (rightCell e .row))
 
-module _ (n k : ℕ) (bs : List Block) (h : cover n 0 bs ≡ 0) where
-  tests-differ : (a b : Cell) → OnlyOneDone n (take k bs) a b ↔ (done n (pixels (take k bs)) (a .column) (a .row) ≢ done n (pixels (take k bs)) (b .column) (b .row))
-  tests-differ a b = ?
+border-tested : (n k : ℕ) (bs : List Block) → cover n 0 bs ≡ 0 → (e : Edge) → Border (2 ^ n) (done n (pixels (take k bs))) e ↔ BorderAfter n (take k bs) e
+border-tested n k bs h e = (λ b. record { side = b .side; onlyOne = same .1 (b .differ) }, λ b. record { side = b .side; differ = same .0 (b .onlyOne) })
+  where
+    same : OnlyOne (Done n (take k bs) (leftCell e .column) (leftCell e .row)) (Done n (take k bs) (rightCell e .column) (rightCell e .row))
+        ↔ (done n (pixels (take k bs)) (leftCell e .column) (leftCell e .row) ≢ done n (pixels (take k bs)) (rightCell e .column) (rightCell e .row))
+    same =
+        only-one-tests (Done n (take k bs) (leftCell e .column) (leftCell e .row)) (Done n (take k bs) (rightCell e .column) (rightCell e .row))
+        (done n (pixels (take k bs)) (leftCell e .column) (leftCell e .row)) (done n (pixels (take k bs)) (rightCell e .column) (rightCell e .row))
+        (done-exactly n k bs h (leftCell e .column) (leftCell e .row)) (done-exactly n k bs h (rightCell e .column) (rightCell e .row))
 
 -- The same after any whole number k of blocks of an accepted list.
 pub border-after-blocks : (n : ℕ) (codes levels colours : List ℕ) → number n codes levels colours ≡ 0 → (k : ℕ)
     → OnePath (2 ^ n) (BorderAfter n (take k (blocks codes levels colours))) (border n (pixels (take k (blocks codes levels colours))))
-border-after-blocks n codes levels colours accepted k = ?
+border-after-blocks n codes levels colours accepted k =
+    let bs : List Block = blocks codes levels colours in
+    let path = border-is-one-path n (pixels (take k bs)) in
+    let tested = border-tested n k bs (accepted-covers n codes levels colours accepted) in
+    record {
+      long = path .long;
+      joined = path .joined;
+      exactly = λ e. (λ m. tested e .0 (path .exactly e .0 m), λ b. path .exactly e .1 (tested e .1 b));
+      once = path .once
+    }
