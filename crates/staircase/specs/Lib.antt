@@ -4,3 +4,4 @@ pub mod FirstBlocks
 pub mod Edges
 pub mod Walk
 pub mod Border
+pub mod Rows

@@ -32,8 +32,8 @@ walk-north : (done : ℕ → ℕ → Bool) (k x y : ℕ) → done (suc x) y ≡ 
 unfolding walk
 walk-north done k x y h = rw (h, walk)
 
-clash : {t : Bool} → t ≡ true → t ≡ false → ⊥
-clash p q = true≢false (sym p ∙ q)
+pub not-both : {t : Bool} → t ≡ true → t ≡ false → ⊥
+not-both p q = true≢false (sym p ∙ q)
 
 sided : (a b : Bool) → a ≢ b → (b ≡ true → a ≡ true) → (a ≡ true) × (b ≡ false)
 sided true true h c = absurd (h refl)
@@ -41,8 +41,8 @@ sided true false h c = (refl, refl)
 sided false true h c = absurd (false≢true (c refl))
 sided false false h c = absurd (h refl)
 
-unlike : {a b : Bool} → a ≡ true → b ≡ false → a ≢ b
-unlike p q e = clash p (e ∙ q)
+unequal : {a b : Bool} → a ≡ true → b ≡ false → a ≢ b
+unequal p q e = not-both p (e ∙ q)
 
 -- The sides of an image by their tails: eastward ones in every column, northward ones in every row.
 pub east-side : (w x y : ℕ) → SideOf w (eastFrom x y) → (x < w) × (y ≤ w)
@@ -64,6 +64,14 @@ pub side-north : (w x y : ℕ) → x ≤ w → 0 < y → y ≤ w → SideOf w (n
 unfolding leftCell rightCell
 side-north w zero y a p b = inr (record { fromWest = omega arith; toEast = omega arith; fromNorth = p; toSouth = b })
 side-north w (suc x) y a p b = inl (record { fromWest = omega arith; toEast = a; fromNorth = p; toSouth = b })
+
+pub border-east : (w : ℕ) (done : ℕ → ℕ → Bool) (x y : ℕ) → x < w → y ≤ w → done (suc x) y ≡ true → done (suc x) (suc y) ≡ false → Border w done (eastFrom x y)
+unfolding leftCell rightCell
+border-east w done x y a b l r = record { side = side-east w x y a b; differ = unequal l r }
+
+pub border-north : (w : ℕ) (done : ℕ → ℕ → Bool) (x y : ℕ) → x ≤ w → 0 < y → y ≤ w → done x y ≡ true → done (suc x) y ≡ false → Border w done (northFrom x y)
+unfolding leftCell rightCell
+border-north w done x y a p b l r = record { side = side-north w x y a p b; differ = unequal l r }
 
 -- The point (x, y) where k steps are left: done in the northwest, not done in the southeast.
 pub record At (w : ℕ) (done : ℕ → ℕ → Bool) (k x y : ℕ) : Type 0 where
@@ -92,7 +100,7 @@ module _ (w : ℕ) (done : ℕ → ℕ → Bool) (s : Stairs w done) where
   beyond column row column′ row′ a b h = pick (done column′ row′) refl
     where
       pick : (t : Bool) → done column′ row′ ≡ t → done column′ row′ ≡ false
-      pick true e = absurd (clash (s .closed column′ row′ column row a b e) h)
+      pick true e = absurd (not-both (s .closed column′ row′ column row a b e) h)
       pick false e = e
 
   -- An edge of the border has done on its left and not done on its right.
@@ -107,14 +115,14 @@ module _ (w : ℕ) (done : ℕ → ℕ → Bool) (s : Stairs w done) where
   -- In a column there is one place between done and not done, and so in a row.
   pub one-place-in-column : (column y y′ : ℕ) → done column y ≡ true → done column (suc y) ≡ false → done column y′ ≡ true → done column (suc y′) ≡ false → y ≡ y′
   one-place-in-column column y y′ a b a′ b′ =
-      let h : ¬ (y < y′) = λ l. clash (s .closed column y′ column (suc y) (omega arith) l a′) b in
-      let g : ¬ (y′ < y) = λ l. clash (s .closed column y column (suc y′) (omega arith) l a) b′ in
+      let h : ¬ (y < y′) = λ l. not-both (s .closed column y′ column (suc y) (omega arith) l a′) b in
+      let g : ¬ (y′ < y) = λ l. not-both (s .closed column y column (suc y′) (omega arith) l a) b′ in
       omega arith
 
   pub one-place-in-row : (row x x′ : ℕ) → done x row ≡ true → done (suc x) row ≡ false → done x′ row ≡ true → done (suc x′) row ≡ false → x ≡ x′
   one-place-in-row row x x′ a b a′ b′ =
-      let h : ¬ (x < x′) = λ l. clash (s .closed x′ row (suc x) row l (omega arith) a′) b in
-      let g : ¬ (x′ < x) = λ l. clash (s .closed x row (suc x′) row l (omega arith) a) b′ in
+      let h : ¬ (x < x′) = λ l. not-both (s .closed x′ row (suc x) row l (omega arith) a′) b in
+      let g : ¬ (x′ < x) = λ l. not-both (s .closed x row (suc x′) row l (omega arith) a) b′ in
       omega arith
 
   rest-end : (x y : ℕ) → At w done 0 x y → Rest w done 0 x y []
@@ -135,7 +143,7 @@ module _ (w : ℕ) (done : ℕ → ℕ → Bool) (s : Stairs w done) where
   east-room k x y a h = pick (eq-or-lt-of-le (a .inside))
     where
       pick : (x ≡ w) ⊎ (x < w) → x < w
-      pick (inl e) = absurd (clash h (s .inEast (suc x) y (omega arith) (omega arith)))
+      pick (inl e) = absurd (not-both h (s .inEast (suc x) y (omega arith) (omega arith)))
       pick (inr l) = l
 
   at-east : (k x y : ℕ) → At w done (suc k) x y → done (suc x) y ≡ true → At w done k (suc x) y
@@ -149,7 +157,7 @@ module _ (w : ℕ) (done : ℕ → ℕ → Bool) (s : Stairs w done) where
       }
 
   rest-east : (k x y : ℕ) (path : List Edge) → At w done (suc k) x y → done (suc x) y ≡ true → Rest w done k (suc x) y path → Rest w done (suc k) x y (eastFrom x y ∷ path)
-  unfolding Leads endX endY leftCell rightCell
+  unfolding Leads endX endY
   rest-east k x y path a h r =
       record {
         long = ap suc (r .long);
@@ -164,7 +172,7 @@ module _ (w : ℕ) (done : ℕ → ℕ → Bool) (s : Stairs w done) where
       here : (e : Edge) → e ≡ eastFrom x y → (x ≤ e .x) × (e .y ≤ y)
       here e q = omega (arith, ap (λ (g : Edge). g .x) q, ap (λ (g : Edge). g .y) q)
       mine : Border w done (eastFrom x y)
-      mine = record { side = side-east w x y (east-room k x y a h) (a .above); differ = unlike h (a .southeast) }
+      mine = border-east w done x y (east-room k x y a h) (a .above) h (a .southeast)
       first : (x′ y′ : ℕ) → Border w done (eastFrom x′ y′) → (x ≡ x′) ⊎ (x < x′) → List·Memᴰ (eastFrom x′ y′) (eastFrom x y ∷ path)
       first x′ y′ b (inl e) =
           let apart = east-apart x′ y′ b in
@@ -174,7 +182,7 @@ module _ (w : ℕ) (done : ℕ → ℕ → Bool) (s : Stairs w done) where
 
   -- A step north, and what it leaves.
   north-room : (k x y : ℕ) → done (suc x) y ≡ false → 0 < y
-  north-room k x zero h = absurd (clash (s .inNorth (suc x)) h)
+  north-room k x zero h = absurd (not-both (s .inNorth (suc x)) h)
   north-room k x (suc y) h = omega arith
 
   at-north : (k x y : ℕ) → At w done (suc k) x y → done (suc x) y ≡ false → At w done k x (y - 1)
@@ -190,7 +198,7 @@ module _ (w : ℕ) (done : ℕ → ℕ → Bool) (s : Stairs w done) where
       }
 
   rest-north : (k x y : ℕ) (path : List Edge) → At w done (suc k) x y → done (suc x) y ≡ false → Rest w done k x (y - 1) path → Rest w done (suc k) x y (northFrom x y ∷ path)
-  unfolding Leads endX endY leftCell rightCell
+  unfolding Leads endX endY
   rest-north k x y path a h r =
       record {
         long = ap suc (r .long);
@@ -207,7 +215,7 @@ module _ (w : ℕ) (done : ℕ → ℕ → Bool) (s : Stairs w done) where
       here : (e : Edge) → e ≡ northFrom x y → (x ≤ e .x) × (e .y ≤ y)
       here e q = omega (arith, ap (λ (g : Edge). g .x) q, ap (λ (g : Edge). g .y) q)
       mine : Border w done (northFrom x y)
-      mine = record { side = side-north w x y (a .inside) positive (a .above); differ = unlike (a .northwest) h }
+      mine = border-north w done x y (a .inside) positive (a .above) (a .northwest) h
       first : (x′ y′ : ℕ) → Border w done (northFrom x′ y′) → (y′ ≡ y) ⊎ (y′ < y) → List·Memᴰ (northFrom x′ y′) (northFrom x y ∷ path)
       first x′ y′ b (inl e) =
           let apart = north-apart x′ y′ b in
