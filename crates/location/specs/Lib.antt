@@ -2,3 +2,5 @@
 pub mod Codes
 pub mod Interleaving
 pub mod Levels
+pub mod Splitting
+pub mod Squares
