@@ -5,3 +5,4 @@ pub mod Edges
 pub mod Walk
 pub mod Border
 pub mod Rows
+pub mod NextBlock
