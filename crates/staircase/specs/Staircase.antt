@@ -31,13 +31,11 @@ pub done-east : (n d column row : ℕ) → 2 ^ n < column → 0 < row → done n
 unfolding done
 done-east n d zero row h p = absurd (omega arith)
 done-east n d (suc x) zero h p = absurd (omega arith)
-done-east n d (suc x) (suc y) h p = ap (λ (t : Bool). t && (ltb y (2 ^ n) && ltb (code n x y) d)) (le-ltb x (2 ^ n) (omega arith))
+done-east n d (suc x) (suc y) h p = rw (le-ltb x (2 ^ n) (omega arith), done)
 
 pub done-pixel : (n d x y : ℕ) → x < 2 ^ n → y < 2 ^ n → done n d (suc x) (suc y) ≡ ltb (code n x y) d
 unfolding done
-done-pixel n d x y a b =
-    ap (λ (t : Bool). t && (ltb y (2 ^ n) && ltb (code n x y) d)) (lt-ltb x (2 ^ n) a)
-    ∙ ap (λ (t : Bool). t && ltb (code n x y) d) (lt-ltb y (2 ^ n) b)
+done-pixel n d x y a b = rw (lt-ltb x (2 ^ n) a, lt-ltb y (2 ^ n) b, done)
 
 -- What is done of the image itself.
 pub record DonePixel (n d x y : ℕ) : Type 0 where
