@@ -1,15 +1,16 @@
 -- The border between done and not done is one path of 2 times 2^n unit edges.
-use mathlib.Core.Path.{_≡_, refl, sym, ap, _∙_}
+use mathlib.Core.Path.{_≡_, refl}
 use mathlib.Core.Logic.{_⊎_, inl, inr, ⊎-elim, _↔_, _≢_}
 use mathlib.Core.Bool.{Bool, true, false, true≢false, false≢true}
-use mathlib.Core.List.{List, List·Memᴰ}
-use Prim.Native.Nat.{ℕ, _*_, _^_, _≤_, _<_}
+use mathlib.Core.List.{List, [], _∷_}
+use Prim.Native.Nat.{ℕ, _*_, _^_}
 use lib.ListN.{take}
+use Rattle.location.specs.Codes.{code}
 use Rattle.quadtree.specs.Blocks.{Block, blocks, pixels}
 use Rattle.quadtree.specs.Number.{cover, number}
 use Rattle.staircase.specs.Staircase.{done, done-west, done-north, done-east, done-south, staircase}
 use Rattle.staircase.specs.FirstBlocks.{Done, done-exactly, accepted-covers}
-use Rattle.staircase.specs.Edges.{Edge, Cell, leftCell, rightCell, SideOf, Border, OnePath}
+use Rattle.staircase.specs.Edges.{Edge, eastFrom, northFrom, leftCell, rightCell, SideOf, Border, OnePath}
 use Rattle.staircase.specs.Walk.{Stairs, walk, walk-is-the-border}
 
 pub done-is-stairs : (n d : ℕ) → Stairs (2 ^ n) (done n d)
@@ -24,6 +25,11 @@ border n d = walk (done n d) (2 * 2 ^ n) 0 (2 ^ n)
 pub border-is-one-path : (n d : ℕ) → OnePath (2 ^ n) (Border (2 ^ n) (done n d)) (border n d)
 unfolding border
 border-is-one-path n d = walk-is-the-border (2 ^ n) (done n d) (done-is-stairs n d)
+
+-- With the northwest pixel of four done: north along the image's west side, then round that pixel.
+one-pixel-done : border 1 1 ≡ northFrom 0 2 ∷ eastFrom 0 1 ∷ northFrom 1 1 ∷ eastFrom 1 0 ∷ []
+unfolding border walk done code
+one-pixel-done = refl
 
 -- One of two statements holds and the other does not.
 abbrev pub OnlyOne : Type 0 → Type 0 → Type 0
@@ -63,5 +69,5 @@ border-after-blocks n codes levels colours accepted k =
       long = path .long;
       joined = path .joined;
       exactly = λ e. (λ m. tested e .0 (path .exactly e .0 m), λ b. path .exactly e .1 (tested e .1 b));
-      once = path .once
+      once = path .once;
     }

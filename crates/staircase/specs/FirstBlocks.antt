@@ -1,7 +1,7 @@
 -- The pixels of the first k blocks of an accepted list, and the staircase that they form.
 use mathlib.Core.Path.{_≡_, refl, sym, ap, _∙_, subst}
 use mathlib.Core.Logic.{_⊎_, inl, inr, _↔_, _≢_}
-use mathlib.Core.Bool.{Bool, true, false, not, _&&_, _||_, true≢false, false≢true}
+use mathlib.Core.Bool.{Bool, true, false, not, _&&_, _||_}
 use mathlib.Core.List.{List, [], _∷_, List·Memᴰ, List·Memᴰ·head, List·Memᴰ·tail, List·Memᴰ·cases-cons, List·Memᴰ·not-nil}
 use Prim.Native.Nat.{ℕ, zero, suc, _+_, _%_, _^_, _≤_, _<_}
 use native.Mathlib.Decide.{decLt}
@@ -9,9 +9,8 @@ use native.Mathlib.Omega.{arith}
 use lib.Dec.{ltb, eqb}
 use lib.ListN.{length, take, getD}
 use lib.Seq.{take-length}
-use borrow.Author.Tests.{ltb-true, ltb-false, eqb-true, eqb-false, lt-ltb, le-ltb}
+use borrow.Author.Tests.{ltb-false, eqb-true, eqb-false}
 use Rattle.sequences.specs.Cases.{first, when, first-zero}
-use Rattle.sequences.specs.Powers.{pow4-pos}
 use Rattle.location.specs.Codes.{code}
 use Rattle.location.specs.Squares.{square-in-image}
 use Rattle.quadtree.specs.Blocks.{Block, blocks, pixels}
@@ -47,6 +46,7 @@ next-block n sum b bs = pick (ltb n (b .level)) (eqb (b .code) sum) (eqb sum (4 
           | true ↦ 3
           | false ↦ elim (not u || v) [ true ↦ 4 | false ↦ elim w [ true ↦ cover n (sum + 4 ^ b .level) bs | false ↦ 5 ] ]
         ]
+
     pick : (t u v w : Bool) → ltb n (b .level) ≡ t → eqb (b .code) sum ≡ u → eqb sum (4 ^ n) ≡ v → eqb (b .code % 4 ^ b .level) 0 ≡ w → asked t u v w ≡ 0 → Next n sum b bs
     pick true u v w e f g m h = absurd (omega arith)
     pick false false v w e f g m h = absurd (omega arith)
@@ -58,7 +58,7 @@ next-block n sum b bs = pick (ltb n (b .level)) (eqb (b .code) sum) (eqb sum (4 
           here = eqb-true (b .code) sum f;
           short = eqb-false sum (4 ^ n) g;
           multiple = eqb-true (b .code % 4 ^ b .level) 0 m;
-          rest = h
+          rest = h;
         }
 
 -- Blocks one after the other from the code `sum` on: their pixels are the codes from there on.
@@ -84,6 +84,7 @@ blocks-in n (suc k) sum (b ∷ bs) c h a l = pick (next-block n sum b bs h) (blo
   where
     later : InOneOf (take k bs) c → InOneOf (b ∷ take k bs) c
     later i = record { block = i .block; listed = List·Memᴰ·tail (i .listed); within = i .within }
+
     pick : Next n sum b bs
         → (cover n (sum + 4 ^ b .level) bs ≡ 0 → sum + 4 ^ b .level ≤ c → c < sum + 4 ^ b .level + pixels (take k bs) → InOneOf (take k bs) c)
         → Dec (c < sum + 4 ^ b .level)
@@ -140,6 +141,7 @@ all-from n sum [] most h = pick (ltb sum (4 ^ n)) refl h
   where
     asked : Bool → ℕ
     asked t = elim t [ true ↦ 6 | false ↦ 0 ]
+
     pick : (t : Bool) → ltb sum (4 ^ n) ≡ t → asked t ≡ 0 → sum + 0 ≡ 4 ^ n
     pick true e h = absurd (omega arith)
     pick false e h = omega (arith, ltb-false sum (4 ^ n) e)
@@ -185,6 +187,7 @@ done-exactly n k bs h (suc x) (suc y) = (tested, told)
     tested t =
         pixel-done n (pixels (take k bs)) x y
         (record { inColumn = t .0; inRow = t .1; below = in-first-blocks n k bs (code n x y) h .0 (t .2) })
+
     told : done n (pixels (take k bs)) (suc x) (suc y) ≡ true → (x < 2 ^ n) × (y < 2 ^ n) × InOneOf (take k bs) (code n x y)
     told e =
         let p : DonePixel n (pixels (take k bs)) x y = done-inside n (pixels (take k bs)) x y e in

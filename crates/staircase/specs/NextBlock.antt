@@ -1,7 +1,7 @@
 -- The block that comes next: how far the columns and rows that it spans are done before it, and after it.
-use mathlib.Core.Path.{_≡_, refl, sym, ap, _∙_}
-use mathlib.Core.Bool.{Bool, true, false}
-use Prim.Native.Nat.{ℕ, zero, suc, _+_, _-_, _%_, _^_, _≤_, _<_}
+use mathlib.Core.Path.{_≡_, refl, sym, _∙_}
+use mathlib.Core.Bool.{true, false}
+use Prim.Native.Nat.{ℕ, zero, suc, _+_, _%_, _^_, _≤_, _<_}
 use native.Mathlib.Decide.{decLt}
 use native.Mathlib.Omega.{arith}
 use lib.Dec.{ltb}
@@ -94,6 +94,7 @@ module _ (n l d : ℕ) (level : l ≤ n) (room : d < 4 ^ n) (multiple : d % 4 ^ 
       above (suc y) e =
           rw e
           (done-pixel n d x y (column-inside x c) (omega (arith, row-below n d)) ∙ lt-ltb (code n x y) d (done-north-of-block x y c (omega arith)))
+
       not-here : done n d (suc x) (suc (row n d)) ≡ false
       not-here =
           done-pixel n d x (row n d) (column-inside x c) (row-below n d) ∙ le-ltb (code n x (row n d)) d (in-square x (row n d) c first-row .0)
@@ -106,6 +107,7 @@ module _ (n l d : ℕ) (level : l ≤ n) (room : d < 4 ^ n) (multiple : d % 4 ^ 
       before (suc x) e =
           rw e
           (done-pixel n d x y (omega (arith, column-below n d)) (row-inside y r) ∙ lt-ltb (code n x y) d (done-west-of-block x y r (omega arith)))
+
       not-here : done n d (suc (column n d)) (suc y) ≡ false
       not-here =
           done-pixel n d (column n d) y (column-below n d) (row-inside y r) ∙ le-ltb (code n (column n d) y) d (in-square (column n d) y first-column r .0)
@@ -119,6 +121,7 @@ module _ (n l d : ℕ) (level : l ≤ n) (room : d < 4 ^ n) (multiple : d % 4 ^ 
       last (suc y) e =
           let i : InRows n l d y = record { fromNorth = omega (arith, pow2-pos l); toSouth = omega arith } in
           done-pixel n (d + 4 ^ l) x y (column-inside x c) (row-inside y i) ∙ lt-ltb (code n x y) (d + 4 ^ l) (in-square x y c i .1)
+
       next : Dec (row n d + 2 ^ l < 2 ^ n) → done n (d + 4 ^ l) (suc x) (suc (row n d + 2 ^ l)) ≡ false
       next (yes b) =
           done-pixel n (d + 4 ^ l) x (row n d + 2 ^ l) (column-inside x c) b
@@ -133,6 +136,7 @@ module _ (n l d : ℕ) (level : l ≤ n) (room : d < 4 ^ n) (multiple : d % 4 ^ 
       last (suc x) e =
           let i : InColumns n l d x = record { fromWest = omega (arith, pow2-pos l); toEast = omega arith } in
           done-pixel n (d + 4 ^ l) x y (column-inside x i) (row-inside y r) ∙ lt-ltb (code n x y) (d + 4 ^ l) (in-square x y i r .1)
+
       next : Dec (column n d + 2 ^ l < 2 ^ n) → done n (d + 4 ^ l) (suc (column n d + 2 ^ l)) (suc y) ≡ false
       next (yes b) =
           done-pixel n (d + 4 ^ l) (column n d + 2 ^ l) y b (row-inside y r)
@@ -155,6 +159,7 @@ module _ (n l d : ℕ) (level : l ≤ n) (room : d < 4 ^ n) (multiple : d % 4 ^ 
       pick : (y : ℕ) → Dec (y < 2 ^ n) → done n (d + 4 ^ l) (suc x) (suc y) ≡ done n d (suc x) (suc y)
       pick y (yes b) = done-off-block x y a b (λ s. off (s .0))
       pick y (no f) = done-south n (d + 4 ^ l) (suc x) (suc y) (omega arith) (omega arith) ∙ sym (done-south n d (suc x) (suc y) (omega arith) (omega arith))
+
       same : (r : ℕ) → done n (d + 4 ^ l) (suc x) r ≡ done n d (suc x) r
       same zero = done-north n (d + 4 ^ l) (suc x) ∙ sym (done-north n d (suc x))
       same (suc y) = pick y (decLt y (2 ^ n))
@@ -166,6 +171,7 @@ module _ (n l d : ℕ) (level : l ≤ n) (room : d < 4 ^ n) (multiple : d % 4 ^ 
       pick : (x : ℕ) → Dec (x < 2 ^ n) → done n (d + 4 ^ l) (suc x) (suc y) ≡ done n d (suc x) (suc y)
       pick x (yes a) = done-off-block x y a b (λ s. off (s .1))
       pick x (no f) = done-east n (d + 4 ^ l) (suc x) (suc y) (omega arith) (omega arith) ∙ sym (done-east n d (suc x) (suc y) (omega arith) (omega arith))
+
       same : (c : ℕ) → done n (d + 4 ^ l) c (suc y) ≡ done n d c (suc y)
       same zero = done-west n (d + 4 ^ l) (suc y) ∙ sym (done-west n d (suc y))
       same (suc x) = pick x (decLt x (2 ^ n))

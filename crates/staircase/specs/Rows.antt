@@ -1,14 +1,14 @@
 -- One side of the border in each row and one in each column: it lies after the pixels done there.
 use mathlib.Core.Path.{_≡_, refl, sym, ap, _∙_}
-use mathlib.Core.Logic.{_↔_, _≢_}
-use mathlib.Core.Bool.{Bool, true, false, true≢false}
+use mathlib.Core.Logic.{_↔_}
+use mathlib.Core.Bool.{Bool, true, false}
 use Prim.Native.Nat.{ℕ, zero, suc, _^_, _≤_, _<_}
 use native.Mathlib.Decide.{decLe}
 use native.Mathlib.Omega.{arith}
 use lib.Dec.{leb}
 use borrow.Author.Tests.{le-leb, lt-leb}
 use Rattle.staircase.specs.Staircase.{done, done-west, done-north, done-east, done-south, staircase}
-use Rattle.staircase.specs.Edges.{Edge, eastFrom, northFrom, leftCell, rightCell, Border}
+use Rattle.staircase.specs.Edges.{eastFrom, northFrom, Border}
 use Rattle.staircase.specs.Walk.{not-both, border-east, border-north, east-apart, north-apart, one-place-in-row, one-place-in-column}
 use Rattle.staircase.specs.Border.{done-is-stairs}
 
@@ -58,6 +58,7 @@ module _ (line : ℕ → Bool) (closed : (i j : ℕ) → j ≤ i → line i ≡ 
       beyond-c : (t : Bool) → c < i → line i ≡ t → line i ≡ false
       beyond-c true l e = absurd (not-both (closed i (suc c) l e) outside)
       beyond-c false l e = e
+
       pick : Dec (i ≤ c) → line i ≡ leb i c
       pick (yes l) = closed c i l inside ∙ sym (le-leb i c l)
       pick (no g) = beyond-c (line i) (omega arith) refl ∙ sym (lt-leb i c (omega arith))
@@ -113,6 +114,7 @@ module _ (n d : ℕ) where
     where
       place : (done n d x (suc y) ≡ true) × (done n d (suc x) (suc y) ≡ false) → x ≡ doneInRow n d y
       place b = sym (row-is y x (b .0) (b .1))
+
       there : Border (2 ^ n) (done n d) (northFrom (doneInRow n d y) (suc y))
       there = border-north (2 ^ n) (done n d) (doneInRow n d y) (suc y) (row-most y) (omega arith) (omega arith) (row-end y .0) (row-end y .1)
 
@@ -122,5 +124,6 @@ module _ (n d : ℕ) where
     where
       place : (done n d (suc x) y ≡ true) × (done n d (suc x) (suc y) ≡ false) → y ≡ doneInColumn n d x
       place b = sym (column-is x y (b .0) (b .1))
+
       there : Border (2 ^ n) (done n d) (eastFrom x (doneInColumn n d x))
       there = border-east (2 ^ n) (done n d) x (doneInColumn n d x) inside (column-most x) (column-end x .0) (column-end x .1)

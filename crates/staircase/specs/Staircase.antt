@@ -1,12 +1,12 @@
 -- The staircase: which cells of an image with a margin are done.
-use mathlib.Core.Path.{_≡_, refl, sym, ap, _∙_}
-use mathlib.Core.Logic.{_⊎_, inl, inr, _↔_}
-use mathlib.Core.Bool.{Bool, true, false, _&&_, true≢false, false≢true}
+use mathlib.Core.Path.{_≡_, refl, ap, _∙_}
+use mathlib.Core.Logic.{_⊎_, inl, inr}
+use mathlib.Core.Bool.{Bool, true, false, _&&_, false≢true}
 use Prim.Native.Nat.{ℕ, zero, suc, _^_, _≤_, _<_}
 use native.Mathlib.Nat.{eq-or-lt-of-le}
 use native.Mathlib.Omega.{arith}
 use lib.Dec.{ltb}
-use borrow.Author.Tests.{ltb-true, ltb-false, lt-ltb, le-ltb}
+use borrow.Author.Tests.{ltb-true, lt-ltb, le-ltb}
 use Rattle.location.specs.Codes.{code}
 use Rattle.location.specs.Interleaving.{code-grows-in-x, code-grows-in-y}
 
@@ -76,6 +76,7 @@ code-grows n x y x′ y′ a b p q = omega (arith, in-x (eq-or-lt-of-le a), in-y
     in-x : (x′ ≡ x) ⊎ (x′ < x) → code n x′ y′ ≤ code n x y′
     in-x (inl e) = omega (arith, ap (λ (z : ℕ). code n z y′) e)
     in-x (inr l) = omega (arith, code-grows-in-x n x′ x y′ l p)
+
     in-y : (y′ ≡ y) ⊎ (y′ < y) → code n x y′ ≤ code n x y
     in-y (inl e) = omega (arith, ap (λ (z : ℕ). code n x z) e)
     in-y (inr l) = omega (arith, code-grows-in-y n x y′ y l q)

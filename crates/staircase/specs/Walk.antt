@@ -1,14 +1,14 @@
 -- The walk along any staircase, with done on the left and not done on the right: it is the whole border.
 use mathlib.Core.Path.{_≡_, refl, sym, ap, ap₂, _∙_, subst}
-use mathlib.Core.Logic.{_⊎_, inl, inr, ⊎-elim, _↔_, _≢_, ∥∥₁-elim}
+use mathlib.Core.Logic.{_⊎_, inl, inr, ⊎-elim, _≢_, ∥∥₁-elim}
 use mathlib.Core.HLevel.{⊥-prop}
 use mathlib.Core.Bool.{Bool, true, false, true≢false, false≢true}
-use mathlib.Core.List.{List, [], _∷_, List·Mem, List·Memᴰ, List·Memᴰ·head, List·Memᴰ·tail, List·Memᴰ·cases-cons, List·Memᴰ·not-nil, List·Nodup, nodup-nil, nodup-cons}
+use mathlib.Core.List.{List, [], _∷_, List·Memᴰ, List·Memᴰ·head, List·Memᴰ·tail, List·Memᴰ·cases-cons, List·Memᴰ·not-nil, List·Nodup, nodup-nil, nodup-cons}
 use Prim.Native.Nat.{ℕ, zero, suc, _+_, _-_, _*_, _≤_, _<_}
 use native.Mathlib.Nat.{eq-or-lt-of-le}
 use native.Mathlib.Omega.{arith}
 use lib.ListN.{length}
-use Rattle.staircase.specs.Edges.{Direction, east, north, Edge, eastFrom, northFrom, endX, endY, Cell, leftCell, rightCell, InImage, SideOf, Border, Leads, OnePath}
+use Rattle.staircase.specs.Edges.{Direction, east, north, Edge, eastFrom, northFrom, endX, endY, leftCell, rightCell, SideOf, Border, Leads, OnePath}
 
 -- A test of cells is a staircase in an image of side w: done north and west of it, not done east and south, and with a cell every
 -- cell that lies no further east and south.
@@ -47,8 +47,8 @@ unequal p q e = not-both p (e ∙ q)
 -- The sides of an image by their tails: eastward ones in every column, northward ones in every row.
 pub east-side : (w x y : ℕ) → SideOf w (eastFrom x y) → (x < w) × (y ≤ w)
 unfolding leftCell rightCell
-east-side w x y (inl i) = (i .toEast, i .toSouth)
-east-side w x y (inr i) = (i .toEast, omega arith)
+east-side w x y (inl i) = omega arith
+east-side w x y (inr i) = omega arith
 
 pub side-east : (w x y : ℕ) → x < w → y ≤ w → SideOf w (eastFrom x y)
 unfolding leftCell rightCell
@@ -57,8 +57,8 @@ side-east w x (suc y) a b = inl (record { fromWest = omega arith; toEast = a; fr
 
 pub north-side : (w x y : ℕ) → SideOf w (northFrom x y) → (x ≤ w) × (0 < y) × (y ≤ w)
 unfolding leftCell rightCell
-north-side w x y (inl i) = (i .toEast, i .fromNorth, i .toSouth)
-north-side w x y (inr i) = (omega arith, i .fromNorth, i .toSouth)
+north-side w x y (inl i) = omega arith
+north-side w x y (inr i) = omega arith
 
 pub side-north : (w x y : ℕ) → x ≤ w → 0 < y → y ≤ w → SideOf w (northFrom x y)
 unfolding leftCell rightCell
@@ -135,7 +135,7 @@ module _ (w : ℕ) (done : ℕ → ℕ → Bool) (s : Stairs w done) where
         sound = λ e m. absurd (List·Memᴰ·not-nil m);
         everyEast = λ x′ y′ b l. absurd (omega (arith, east-side w x′ y′ (b .side)));
         everyNorth = λ x′ y′ b l. absurd (omega (arith, north-side w x′ y′ (b .side)));
-        once = nodup-nil
+        once = nodup-nil;
       }
 
   -- A step east, and what it leaves.
@@ -153,7 +153,7 @@ module _ (w : ℕ) (done : ℕ → ℕ → Bool) (s : Stairs w done) where
         above = a .above;
         northwest = h;
         southeast = beyond (suc x) (suc y) (suc (suc x)) (suc y) (omega arith) (omega arith) (a .southeast);
-        left = omega arith
+        left = omega arith;
       }
 
   rest-east : (k x y : ℕ) (path : List Edge) → At w done (suc k) x y → done (suc x) y ≡ true → Rest w done k (suc x) y path → Rest w done (suc k) x y (eastFrom x y ∷ path)
@@ -166,13 +166,15 @@ module _ (w : ℕ) (done : ℕ → ℕ → Bool) (s : Stairs w done) where
         sound = λ e m. ⊎-elim (λ q. subst (Border w done) (sym q) mine) (λ m′. r .sound e m′) (List·Memᴰ·cases-cons m);
         everyEast = λ x′ y′ b l. first x′ y′ b (eq-or-lt-of-le l);
         everyNorth = λ x′ y′ b l. List·Memᴰ·tail (r .everyNorth x′ y′ b l);
-        once = new-edge (eastFrom x y) path (λ m. omega (arith, r .ahead (eastFrom x y) m)) (r .once)
+        once = new-edge (eastFrom x y) path (λ m. omega (arith, r .ahead (eastFrom x y) m)) (r .once);
       }
     where
       here : (e : Edge) → e ≡ eastFrom x y → (x ≤ e .x) × (e .y ≤ y)
       here e q = omega (arith, ap (λ (g : Edge). g .x) q, ap (λ (g : Edge). g .y) q)
+
       mine : Border w done (eastFrom x y)
       mine = border-east w done x y (east-room k x y a h) (a .above) h (a .southeast)
+
       first : (x′ y′ : ℕ) → Border w done (eastFrom x′ y′) → (x ≡ x′) ⊎ (x < x′) → List·Memᴰ (eastFrom x′ y′) (eastFrom x y ∷ path)
       first x′ y′ b (inl e) =
           let apart = east-apart x′ y′ b in
@@ -194,7 +196,7 @@ module _ (w : ℕ) (done : ℕ → ℕ → Bool) (s : Stairs w done) where
         above = omega arith;
         northwest = s .closed x y x (y - 1) (omega arith) (omega arith) (a .northwest);
         southeast = rw e h;
-        left = omega arith
+        left = omega arith;
       }
 
   rest-north : (k x y : ℕ) (path : List Edge) → At w done (suc k) x y → done (suc x) y ≡ false → Rest w done k x (y - 1) path → Rest w done (suc k) x y (northFrom x y ∷ path)
@@ -207,15 +209,18 @@ module _ (w : ℕ) (done : ℕ → ℕ → Bool) (s : Stairs w done) where
         sound = λ e m. ⊎-elim (λ q. subst (Border w done) (sym q) mine) (λ m′. r .sound e m′) (List·Memᴰ·cases-cons m);
         everyEast = λ x′ y′ b l. List·Memᴰ·tail (r .everyEast x′ y′ b l);
         everyNorth = λ x′ y′ b l. first x′ y′ b (eq-or-lt-of-le l);
-        once = new-edge (northFrom x y) path (λ m. omega (arith, positive, r .ahead (northFrom x y) m)) (r .once)
+        once = new-edge (northFrom x y) path (λ m. omega (arith, positive, r .ahead (northFrom x y) m)) (r .once);
       }
     where
       positive : 0 < y
       positive = north-room k x y h
+
       here : (e : Edge) → e ≡ northFrom x y → (x ≤ e .x) × (e .y ≤ y)
       here e q = omega (arith, ap (λ (g : Edge). g .x) q, ap (λ (g : Edge). g .y) q)
+
       mine : Border w done (northFrom x y)
       mine = border-north w done x y (a .inside) positive (a .above) (a .northwest) h
+
       first : (x′ y′ : ℕ) → Border w done (northFrom x′ y′) → (y′ ≡ y) ⊎ (y′ < y) → List·Memᴰ (northFrom x′ y′) (northFrom x y ∷ path)
       first x′ y′ b (inl e) =
           let apart = north-apart x′ y′ b in
@@ -241,16 +246,19 @@ module _ (w : ℕ) (done : ℕ → ℕ → Bool) (s : Stairs w done) where
         long = rest .long;
         joined = rest .joined;
         exactly = λ e. (rest .sound e, λ b. every e b);
-        once = rest .once
+        once = rest .once;
       }
     where
       start : At w done (2 * w) 0 w
       start =
           record { inside = omega arith; above = omega arith; northwest = s .inWest w; southeast = s .inSouth 1 (suc w) (omega arith) (omega arith); left = omega arith }
+
       rest : Rest w done (2 * w) 0 w (walk done (2 * w) 0 w)
       rest = rest-of-walk (2 * w) 0 w start
+
       turned : (x y : ℕ) (t : Direction) → Border w done (record { x = x; y = y; direction = t }) → List·Memᴰ (record { x = x; y = y; direction = t }) (walk done (2 * w) 0 w)
       turned x y east b = rest .everyEast x y b (omega arith)
       turned x y north b = rest .everyNorth x y b (omega (arith, north-side w x y (b .side)))
+
       every : (e : Edge) → Border w done e → List·Memᴰ e (walk done (2 * w) 0 w)
       every e b = turned (e .x) (e .y) (e .direction) b
