@@ -87,13 +87,21 @@ module _ (n l c : ℕ) (level : l ≤ n) (inside : c < 4 ^ n) (multiple : c % 4 
         omega (arith, ap (λ (t : ℕ). t * 2 ^ n) ey, add-mul (row n c) y′ (2 ^ n)) in
       ap (λ (i : ℕ). getD raster i 0) z ∙ h x′ y′ (omega arith) (omega arith)
 
-  pub square-alike : rowsAlike raster v (2 ^ n) (place n c) (2 ^ l) (2 ^ l) ≡ alike (inCodeOrder n raster) v c (4 ^ l)
+  from-codes : ((d : ℕ) → c ≤ d → d < c + 4 ^ l → Painted (column n d) (row n d)) → (i : ℕ) → i < 4 ^ l → getD px (c + i) 0 ≡ v
   unfolding px Painted place
+  from-codes h i k =
+      in-code-order-at n raster (c + i) (omega (arith, square-in-image n l c level inside multiple)) ∙ h (c + i) (omega arith) (omega arith)
+
+  from-pixels : ((x y : ℕ) → column n c ≤ x → x < column n c + 2 ^ l → row n c ≤ y → y < row n c + 2 ^ l → Painted x y)
+      → (x y : ℕ) → x < 2 ^ l → y < 2 ^ l → getD raster (place n c + y * 2 ^ n + x) 0 ≡ v
+  unfolding Painted place
+  from-pixels h x y a b =
+      let z : row n c * 2 ^ n + column n c + y * 2 ^ n + x ≡ (row n c + y) * 2 ^ n + (column n c + x) = omega (arith, add-mul (row n c) y (2 ^ n)) in
+      ap (λ (i : ℕ). getD raster i 0) z ∙ h (column n c + x) (row n c + y) (omega arith) (omega arith) (omega arith) (omega arith)
+
+  pub square-alike : rowsAlike raster v (2 ^ n) (place n c) (2 ^ l) (2 ^ l) ≡ alike (inCodeOrder n raster) v c (4 ^ l)
+  unfolding px
   square-alike =
-      same-test (rowsAlike raster v (2 ^ n) (place n c) (2 ^ l) (2 ^ l)) (alike (inCodeOrder n raster) v c (4 ^ l)) to from
-    where
-      both = for-block-for-square n l c level inside multiple Painted
-      to : rowsAlike raster v (2 ^ n) (place n c) (2 ^ l) (2 ^ l) ≡ true → alike (inCodeOrder n raster) v c (4 ^ l) ≡ true
-      to h = each-alike px v c (4 ^ l) (λ i k. ?)
-      from : alike (inCodeOrder n raster) v c (4 ^ l) ≡ true → rowsAlike raster v (2 ^ n) (place n c) (2 ^ l) (2 ^ l) ≡ true
-      from h = each-rows raster v (2 ^ n) (place n c) (2 ^ l) (2 ^ l) (λ x y a b. ?)
+      same-test (rowsAlike raster v (2 ^ n) (place n c) (2 ^ l) (2 ^ l)) (alike (inCodeOrder n raster) v c (4 ^ l))
+      (λ h. each-alike px v c (4 ^ l) (from-codes (for-block-for-square n l c level inside multiple Painted .1 (by-pixel (rows-each raster v (2 ^ n) (place n c) (2 ^ l) (2 ^ l) h)))))
+      (λ h. each-rows raster v (2 ^ n) (place n c) (2 ^ l) (2 ^ l) (from-pixels (for-block-for-square n l c level inside multiple Painted .0 (by-code (alike-each px v c (4 ^ l) h)))))
