@@ -4,4 +4,7 @@ pub mod Alignment
 pub mod Covering
 pub mod Siblings
 pub mod Checking
+pub mod Places
 pub mod Squares
+pub mod Growing
+pub mod Merging

@@ -3,6 +3,8 @@ ghost use mathlib.Core.Path.{_≡_};
 ghost use Rattle.quadtree.specs.Number.{number};
 
 mod covering;
+mod merge;
+mod squares;
 
 // The number of a block list, 0 where it is accepted: causes 1 to 7 in the document's order.
 pub fn check(n: u32, codes: &[u32], levels: &[u8], colours: &[u8]) -> u32

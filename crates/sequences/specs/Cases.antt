@@ -1,6 +1,6 @@
 -- The first of several causes that applies, and tests that agree.
-use mathlib.Core.Path.{_≡_, refl, sym, ap, _∙_}
-use mathlib.Core.Bool.{Bool, true, false, true≢false, false≢true}
+use mathlib.Core.Path.{_≡_, refl, sym, ap, ap₂, _∙_}
+use mathlib.Core.Bool.{Bool, true, false, _&&_, false≢true}
 use Prim.Native.Nat.{ℕ, zero, suc, _<_}
 use native.Mathlib.Omega.{arith}
 
@@ -47,3 +47,21 @@ pub same-test : (a b : Bool) → (a ≡ true → b ≡ true) → (b ≡ true →
 same-test true b f g = sym (f refl)
 same-test false true f g = g refl
 same-test false false f g = refl
+
+-- Two tests asked one after the other.
+pub and-stop : (a b : Bool) → a ≡ false → a && b ≡ false
+and-stop a b h = ap (λ (t : Bool). t && b) h
+
+pub and-go-on : (a b : Bool) → a ≡ true → a && b ≡ b
+and-go-on a b h = ap (λ (t : Bool). t && b) h
+
+pub and-fail : (a b : Bool) → b ≡ false → a && b ≡ false
+and-fail true b h = h
+and-fail false b h = refl
+
+pub and-both : (a b : Bool) → a && b ≡ true → (a ≡ true) × (b ≡ true)
+and-both true b h = (refl, h)
+and-both false b h = absurd (false≢true h)
+
+pub both-and : (a b : Bool) → a ≡ true → b ≡ true → a && b ≡ true
+both-and a b p q = ap₂ _&&_ p q
