@@ -8,3 +8,5 @@ pub mod Places
 pub mod Squares
 pub mod Growing
 pub mod Merging
+pub mod Quadrants
+pub mod Growth

@@ -29,6 +29,9 @@ pub record Room (n : ℕ) (raster codes levels colours : List ℕ) : Type 0 wher
   pub for-levels : 4 ^ n ≤ length levels
   pub for-colours : 4 ^ n ≤ length colours
 
+pub raster-of : {n : ℕ} {raster codes levels colours : List ℕ} → Room n raster codes levels colours → RasterOf n raster
+raster-of room = record { small = room .small; whole = room .whole }
+
 -- What was written: the blocks of the quadtree, and their number returned.
 pub record Merged (n : ℕ) (raster codes₀ levels₀ colours₀ codes₁ levels₁ colours₁ : List ℕ) (count : ℕ) : Type 0 where
   pub number : count ≡ length (quadtree n (inCodeOrder n raster))
@@ -92,17 +95,17 @@ module _ {n : ℕ} {raster codes₀ levels₀ colours₀ : List ℕ} (room : Roo
       pub in-image : c < 4 ^ n
       in-image = omega (arith, room .whole)
 
-      pub turn : Turn n raster codes₁ levels₁ colours₁ count c (blockAt n (inCodeOrder n raster) c .level)
+      pub turn : {level : ℕ} → level ≡ blockAt n (inCodeOrder n raster) c .level → Turn n raster codes₁ levels₁ colours₁ count c level
       unfolding blockAt
-      turn =
+      turn {level} e =
           let px = inCodeOrder n raster in
           let fits = top-level-fits n c in-image in
           let low = level-below px c (topLevel n c) in
           record {
             image = pow4-mono (room .small);
-            low = omega (arith, room .small);
-            fits = omega (arith, pow4-mono low);
-            grows = pow4-pos (blockAt n px c .level);
+            low = omega (arith, e, room .small);
+            fits = omega (arith, pow4-mono low, ap (λ (k : ℕ). 4 ^ k) e);
+            grows = pow4-pos level;
             in-codes = omega (arith, in-image, m .few, room .for-codes, m .codes-long);
             in-levels = omega (arith, in-image, m .few, room .for-levels, m .levels-long);
             in-colours = omega (arith, in-image, m .few, room .for-colours, m .colours-long);
@@ -115,16 +118,16 @@ module _ {n : ℕ} {raster codes₀ levels₀ colours₀ : List ℕ} (room : Roo
           let px = inCodeOrder n raster in
           let b = blockAt n px c in
           let same : colour ≡ b .colour = ek ∙ sym (in-code-order-at n raster c in-image) in
-          let t = turn in
+          let t = turn el in
           let fewer : count < 4 ^ n = omega (arith, in-image, m .few) in
           record {
-            ends = omega (arith, t .fits, ap (λ (k : ℕ). 4 ^ k) el);
+            ends = t .fits;
             codes-long = length-set codes₁ count c ∙ m .codes-long;
             levels-long = length-set levels₁ count level ∙ m .levels-long;
             colours-long = length-set colours₁ count colour ∙ m .colours-long;
             done = m .done ++ (b ∷ []);
             counted = omega (arith, length-append (m .done) (b ∷ []), m .counted);
-            few = omega (arith, m .few, t .grows, ap (λ (k : ℕ). 4 ^ k) el);
+            few = omega (arith, m .few, t .grows);
             in-codes = push-field (λ (a : Block). a .code) (m .done) b codes₁ codes₀ c count (m .in-codes) refl (m .counted) (omega (arith, room .for-codes));
             in-levels = push-field (λ (a : Block). a .level) (m .done) b levels₁ levels₀ level count (m .in-levels) el (m .counted) (omega (arith, room .for-levels));
             in-colours = push-field (λ (a : Block). a .colour) (m .done) b colours₁ colours₀ colour count (m .in-colours) same (m .counted) (omega (arith, room .for-colours));
