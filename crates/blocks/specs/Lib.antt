@@ -10,3 +10,5 @@ pub mod Growing
 pub mod Merging
 pub mod Quadrants
 pub mod Growth
+pub mod Filling
+pub mod Painting
