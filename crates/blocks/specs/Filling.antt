@@ -37,6 +37,34 @@ run-one-more {from} {s} {v} {old} {new} i e room r = record {
     fewer j (inl h) = inl h
     fewer j (inr h) = inr (omega arith)
 
+-- The loop over a run: the entries before the place i are filled.
+pub record RunDone (from s v i : ℕ) (old new : List ℕ) : Type 0 where
+  pub past : from ≤ i
+  pub within : i ≤ from + s
+  pub filled : RunFilled from (i - from) v old new
+
+module _ {from s v : ℕ} {old : List ℕ} where
+  pub run-done-none : RunDone from s v from old old
+  run-done-none =
+      let e : from - from ≡ 0 = omega arith in
+      record { past = omega arith; within = omega arith; filled = subst (λ (k : ℕ). RunFilled from k v old old) (sym e) run-empty }
+
+  module _ {i : ℕ} {new : List ℕ} (r : RunDone from s v i old new) where
+    pub run-fits : from + s ≤ length old → i < from + s → i < length new
+    run-fits room more = omega (arith, r .filled .long)
+
+    pub run-done-more : from + s ≤ length old → i < from + s → RunDone from s v (i + 1) old (set new i v)
+    run-done-more room more =
+        let e : i - from + 1 ≡ i + 1 - from = omega (arith, r .past) in
+        record {
+          past = omega (arith, r .past);
+          within = omega arith;
+          filled = subst (λ (k : ℕ). RunFilled from k v old (set new i v)) e (run-one-more i (omega (arith, r .past)) (run-fits room more) (r .filled));
+        }
+
+    pub run-done-all : from + s ≤ i → RunFilled from s v old new
+    run-done-all h = let e : i - from ≡ s = omega (arith, r .past, r .within) in subst (λ (k : ℕ). RunFilled from k v old new) e (r .filled)
+
 -- k rows of s entries from the place `at` on, w apart, are v, and all others are as they were.
 pub record RowsFilled (w at s k v : ℕ) (old new : List ℕ) : Type 0 where
   pub long : length new ≡ length old
@@ -76,3 +104,23 @@ rows-one-more {w} {at} {s} {k} {v} {old} {new} {newer} from e r f = record {
     off : (j : ℕ) → ((x y : ℕ) → x < s → y < k + 1 → j ≡ at + y * w + x → ⊥) → ((from ≤ j) × (j < from + s)) ⊎ ((j < from) ⊎ (from + s ≤ j)) → (j < from) ⊎ (from + s ≤ j)
     off j o (inl h) = absurd (o (j - from) k (omega (arith, h .0, h .1)) (omega arith) (omega (arith, e, h .0)))
     off j o (inr h) = h
+
+-- The loop over the rows of a square: k rows are filled and the next begins at `from`.
+pub record RowsDone (w at s k v from : ℕ) (old new : List ℕ) : Type 0 where
+  pub within : k ≤ s
+  pub here : from ≡ at + k * w
+  pub filled : RowsFilled w at s k v old new
+
+module _ {w at s v : ℕ} {old : List ℕ} where
+  pub rows-done-none : RowsDone w at s 0 v at old old
+  rows-done-none = record { within = omega arith; here = omega arith; filled = rows-empty }
+
+  module _ {k from : ℕ} {new : List ℕ} (fit : RowsFit (length old) w at s s) (r : RowsDone w at s k v from old new) (more : k < s) where
+    pub row-fits : from + s ≤ length new
+    row-fits = omega (arith, fit k more, r .here, r .filled .long)
+
+    pub rows-done-more : {newer : List ℕ} → RunFilled from s v new newer → RowsDone w at s (k + 1) v (from + w) old newer
+    rows-done-more f = record { within = omega (arith, more); here = omega (arith, r .here, add-mul k 1 w); filled = rows-one-more from (r .here) (r .filled) f }
+
+  pub rows-done-all : {k from : ℕ} {new : List ℕ} → RowsDone w at s k v from old new → s ≤ k → RowsFilled w at s s v old new
+  rows-done-all {k} {from} {new} r h = let e : k ≡ s = omega (arith, r .within) in subst (λ (j : ℕ). RowsFilled w at s j v old new) e (r .filled)

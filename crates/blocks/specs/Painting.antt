@@ -9,7 +9,7 @@ use lib.ListN.{length, getD, drop, replicate, length-append, length-replicate, g
 use lib.Seq.{getD-append-add, ext-getD}
 use lib.Arith.{digits-div, digits-mod}
 use Rattle.sequences.specs.Over.{over, over-inside, over-beyond, length-over}
-use Rattle.sequences.specs.Powers.{pow4-mono}
+use Rattle.sequences.specs.Powers.{pow2-mono}
 use Rattle.location.specs.Codes.{code, column, row}
 use Rattle.location.specs.Interleaving.{code-below}
 use Rattle.location.specs.Levels.{sideOf, side-is-power}
@@ -155,3 +155,58 @@ module _ {n : ℕ} {bs : List Block} {old : List ℕ} where
     where
       below : (j : ℕ) → codeAt n j < 4 ^ n
       below j = code-below n (j % 2 ^ n) (j / 2 ^ n)
+
+-- An accepted list, and a raster with room for its image.
+pub record Paintable (n : ℕ) (codes levels colours raster : List ℕ) : Type 0 where
+  pub small : n ≤ 8
+  pub long : EqualLengths codes levels colours
+  pub covered : cover n 0 (blocks codes levels colours) ≡ 0
+  pub enough : 4 ^ n ≤ length raster
+
+-- The loop over the three lists, in rows of w.
+pub record PaintedTo (n : ℕ) (codes levels colours old : List ℕ) (w : ℕ) (new : List ℕ) (i : ℕ) : Type 0 where
+  pub wide : w ≡ 2 ^ n
+  pub painting : Painting n (blocks codes levels colours) old new i
+
+module _ {n : ℕ} {codes levels colours old : List ℕ} (ok : Paintable n codes levels colours old) where
+  pub painted-none : {w : ℕ} → w ≡ sideOf n → PaintedTo n codes levels colours old w old 0
+  painted-none e = record { wide = e ∙ side-is-power n (omega (arith, ok .small)); painting = painting-none (ok .covered) }
+
+  module _ {w : ℕ} {new : List ℕ} {i : ℕ} (p : PaintedTo n codes levels colours old w new i) where
+    pub same-length : length new ≡ length old
+    same-length = p .painting .long
+
+    module _ (more : i < length codes) where
+      b : Block
+      b = blockOf codes levels colours i
+
+      here : drop i (blocks codes levels colours) ≡ blockOf codes levels colours i ∷ drop (i + 1) (blocks codes levels colours)
+      here = rest-after codes levels colours (ok .long) i more
+
+      pub at-block : Placeable n (blockOf codes levels colours i) (length new)
+      at-block = placeable (p .painting) (blockOf codes levels colours i) here (ok .enough)
+
+      pub code-inside : getD codes i 0 < 4 ^ n
+      unfolding blockOf
+      code-inside = at-block .room
+
+      module _ {at s : ℕ} (ea : at ≡ place n (getD codes i 0)) (es : s ≡ sideOf (getD levels i 0)) where
+        side : s ≡ 2 ^ getD levels i 0
+        unfolding blockOf
+        side = es ∙ side-is-power (getD levels i 0) (omega (arith, at-block .level, ok .small))
+
+        pub block-fits : (w ≤ 256) × RowsFit (length new) w at s s
+        unfolding blockOf
+        block-fits = rw (p .wide, ea, side) (pow2-mono (ok .small), at-block .fits)
+
+        pub painted-more : {newer : List ℕ} → RowsFilled w at s s (getD colours i 0) new newer → PaintedTo n codes levels colours old w newer (i + 1)
+        unfolding blockOf
+        painted-more {newer} f = record {
+          wide = p .wide;
+          painting =
+            painting-more (p .painting) (blockOf codes levels colours i) here
+            (omega (arith, length-blocks codes levels colours (ok .long))) (ok .enough) (rw (p .wide, ea, side) at f);
+        }
+
+    pub painted-all : length codes ≤ i → new ≡ over (inRows n (paint (blocks codes levels colours))) old
+    painted-all past = painting-all (p .painting) (omega (arith, length-blocks codes levels colours (ok .long))) (ok .enough)

@@ -4,6 +4,7 @@ ghost use Rattle.quadtree.specs.Number.{number};
 
 mod covering;
 mod merge;
+mod paint;
 mod squares;
 
 // The number of a block list, 0 where it is accepted: causes 1 to 7 in the document's order.
