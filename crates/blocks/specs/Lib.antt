@@ -12,3 +12,4 @@ pub mod Quadrants
 pub mod Growth
 pub mod Filling
 pub mod Painting
+pub mod Rasters

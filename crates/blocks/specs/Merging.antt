@@ -8,9 +8,10 @@ use Rattle.sequences.specs.Over.{over, over-none, over-push}
 use Rattle.sequences.specs.Powers.{pow4-pos, pow4-mono}
 use Rattle.location.specs.Levels.{topLevel}
 use Rattle.location.specs.TopLevels.{top-level-fits}
-use Rattle.quadtree.specs.Blocks.{Block}
+use Rattle.quadtree.specs.Blocks.{Block, pixels}
 use Rattle.quadtree.specs.Fields.{codes, levels, colours}
 use Rattle.quadtree.specs.Quadtree.{quadtree}
+use Rattle.quadtree.specs.Painting.{pixels-quadtree}
 use Rattle.quadtree.specs.Raster.{place, inCodeOrder}
 use Rattle.quadtree.specs.Orders.{in-code-order-at}
 use Rattle.quadtree.specs.Merging.{blockAt, mergedFrom, merged-more, merged-end, level-below}
@@ -148,3 +149,14 @@ module _ {n : ℕ} {raster codes₀ levels₀ colours₀ : List ℕ} (room : Roo
           in-levels = m .in-levels ∙ ap (λ (l : List Block). over (levels l) levels₀) all;
           in-colours = m .in-colours ∙ ap (λ (l : List Block). over (colours l) colours₀) all;
         }
+
+blocks-few : (bs : List Block) → length bs ≤ pixels bs
+unfolding pixels
+blocks-few [] = omega arith
+blocks-few (b ∷ bs) = omega (arith, blocks-few bs, pow4-pos (b .level))
+
+-- An image has no more blocks than pixels.
+pub merged-few : {n : ℕ} {raster codes₀ levels₀ colours₀ codes₁ levels₁ colours₁ : List ℕ} {count : ℕ} → n ≤ 8
+    → Merged n raster codes₀ levels₀ colours₀ codes₁ levels₁ colours₁ count → count ≤ 65536
+merged-few {n} {raster} small m =
+    omega (arith, m .number, blocks-few (quadtree n (inCodeOrder n raster)), pixels-quadtree n (inCodeOrder n raster), pow4-mono small)
