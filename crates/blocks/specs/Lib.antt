@@ -13,3 +13,4 @@ pub mod Growth
 pub mod Filling
 pub mod Painting
 pub mod Rasters
+pub mod RoundTrip

@@ -6,8 +6,8 @@ use Prim.Native.Nat.{ℕ, zero, suc, _^_, _≤_, _<_}
 use native.Mathlib.Omega.{arith}
 use lib.ListN.{length}
 use lib.Dec.{eqb, ltb}
-use borrow.Author.Tests.{lt-ltb, le-ltb, eq-eqb, ne-eqb}
-use Rattle.sequences.specs.Cases.{first, when, ifAccepted, first-some, first-none, when-yes, when-no, or-right, written-accepted, written-refused}
+use borrow.Author.Tests.{lt-ltb, le-ltb, eq-eqb, ne-eqb, ltb-false, eqb-true, not-false}
+use Rattle.sequences.specs.Cases.{first, when, ifAccepted, first-some, first-none, first-zero, when-zero, when-yes, when-no, or-right, written-accepted, written-refused}
 use Rattle.sequences.specs.Over.{over, over-none}
 use Rattle.quadtree.specs.Blocks.{Block, blocks, paint}
 use Rattle.quadtree.specs.Fields.{codes, levels, colours}
@@ -106,6 +106,13 @@ module _ (n : ℕ) (raster cs ls ks : List ℕ) where
     raster-accepted a b c =
         sym (whole-raster small whole
         ∙ when-no short 8 (ap₂ _||_ (le-ltb (length cs) (4 ^ n) a) (ap₂ _||_ (le-ltb (length ls) (4 ^ n) b) (le-ltb (length ks) (4 ^ n) c))))
+
+  pub accepted-raster : rasterNumber n raster cs ls ks ≡ 0 → (n ≤ 8) × (length raster ≡ 4 ^ n)
+  unfolding rasterNumber unlike short
+  accepted-raster e =
+      let one = first-zero (when (ltb 8 n) 1) (first (when unlike 9) (when short 8)) e in
+      let nine = first-zero (when unlike 9) (when short 8) (one .1) in
+      (ltb-false 8 n (when-zero (ltb 8 n) 1 (omega arith) (one .0)), eqb-true (length raster) (4 ^ n) (not-false (eqb (length raster) (4 ^ n)) (when-zero unlike 9 (omega arith) (nine .0))))
 
   -- A refusal returns its number and leaves all lists.
   pub raster-refused : {k : ℕ} → 0 < k → k ≡ rasterNumber n raster cs ls ks → FromRaster n raster cs ls ks cs ls ks (record { number = k; count = 0 })
