@@ -2,3 +2,5 @@
 pub mod Directions
 pub mod Walks
 pub mod CycleForm
+pub mod Straight
+pub mod Corners
