@@ -1,4 +1,5 @@
 -- Points, directions, walks, corners and cycle form.
+pub mod Tests
 pub mod Directions
 pub mod Walks
 pub mod CycleForm
