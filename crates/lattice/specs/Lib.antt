@@ -5,3 +5,4 @@ pub mod Walks
 pub mod CycleForm
 pub mod Straight
 pub mod Corners
+pub mod Legs
