@@ -6,3 +6,4 @@ pub mod CycleForm
 pub mod Straight
 pub mod Corners
 pub mod Legs
+pub mod Outlines
