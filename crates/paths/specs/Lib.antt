@@ -1,0 +1,2 @@
+-- Path data, chains and stretches.
+pub mod Scan
