@@ -1,2 +1,5 @@
 -- Path data, chains and stretches.
 pub mod Scan
+pub mod Decimal
+pub mod Answers
+pub mod Svg

@@ -3,3 +3,10 @@
 ghost use mathlib.Core.Path.{_≡_};
 
 mod form;
+
+// A writer's answer: 0 and how many bytes or corners it wrote, or the number of a cause and 0.
+#[repr(C)]
+pub struct Written {
+    pub number: u32,
+    pub count: u32,
+}
