@@ -2,4 +2,6 @@
 pub mod Scan
 pub mod Decimal
 pub mod Answers
+pub mod Stores
+pub mod Underway
 pub mod Svg

@@ -7,7 +7,9 @@ use Prim.Native.Nat.{ℕ, zero, suc, _+_, _-_, _*_, _%_, _≤_, _<_}
 use native.Mathlib.Decide.{ℕ-discrete}
 use native.Mathlib.Omega.{arith}
 use lib.Dec.{ltb}
-use lib.ListN.{length, length-append}
+use native.Mathlib.Numerals.{add-one}
+use lib.ListN.{length, getD, drop, length-append, drop-of-length-le}
+use lib.Seq.{drop-cons}
 use Rattle.sequences.specs.Cases.{first, when}
 use Rattle.lattice.specs.Tests.{isEven, then-both, even-yes, even-not}
 use Rattle.lattice.specs.Directions.{xOf, yOf}
@@ -91,3 +93,20 @@ within-need (c ∷ cs) h =
 pub need-suffices : (cs : List ℕ) → cycleForm cs ≡ true → length (pathData cs) ≤ 9 + 4 * length cs
 unfolding svgNeed
 need-suffices cs h = within-need cs (parts cs h .within)
+
+-- The words from the place i on, taken off one by one.
+pub path-next : (cs : List ℕ) (i : ℕ) → i < length cs → pathDataFrom i (drop i cs) ≡ word i (getD cs i 0) ++ pathDataFrom (i + 1) (drop (i + 1) cs)
+unfolding pathDataFrom
+path-next cs i h = rw (add-one, drop-cons cs i 0) refl
+
+pub path-end : (cs : List ℕ) (i : ℕ) → length cs ≤ i → pathDataFrom i (drop i cs) ≡ 90 ∷ []
+unfolding pathDataFrom
+path-end cs i h = rw (drop-of-length-le cs h) refl
+
+-- How far the text has come after the word at i.
+pub word-bounds : (i c at n : ℕ) → inside c ≡ true → n ≡ length (word i c) → at ≤ 8 * i → at ≤ 4 * i + 4 → (at + n ≤ 8 * (i + 1)) × (at + n ≤ 4 * (i + 1) + 4)
+word-bounds i c at n h e p q = pick (ℕ-discrete i 0) (word-length i c h)
+  where
+    pick : Dec (i ≡ 0) → (length (word i c) ≤ 8) × (0 < i → length (word i c) ≤ 4) → (at + n ≤ 8 * (i + 1)) × (at + n ≤ 4 * (i + 1) + 4)
+    pick (yes z) w = (omega (arith, w .0), omega (arith, w .0))
+    pick (no k) w = (omega (arith, w .1 (omega arith)), omega (arith, w .1 (omega arith)))

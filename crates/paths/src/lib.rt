@@ -3,6 +3,7 @@
 ghost use mathlib.Core.Path.{_≡_};
 
 mod form;
+mod text;
 
 // A writer's answer: 0 and how many bytes or corners it wrote, or the number of a cause and 0.
 #[repr(C)]
