@@ -1,12 +1,42 @@
 -- What a writer answers and leaves in the list it was lent: the number of the first cause that applies, else 0; how many
 -- entries it wrote; the list with those entries in front. A refusal gives the number and 0, and leaves the list as it was.
 use mathlib.Core.Path.{_≡_, refl, sym, ap, _∙_}
-use mathlib.Core.Bool.{Bool, true, false}
+use mathlib.Core.Bool.{Bool, true, false, not}
 use mathlib.Core.List.{List, [], _∷_}
 use Prim.Native.Nat.{ℕ, zero, suc, _≤_, _<_}
+use native.Mathlib.Omega.{arith}
+use lib.Dec.{ltb}
 use lib.ListN.{length}
+use borrow.Author.Tests.{lt-ltb, le-ltb, ltb-false, not-false}
+use Rattle.sequences.specs.Cases.{first, when, first-some, first-zero, when-zero}
 use Rattle.sequences.specs.Over.{over, over-none}
 use Rattle.paths.specs.declared.Written.{Written}
+
+-- "Paths and chains: 16 or 17, then 8" (document 01): the cause where the input is no form, then 8 where the lent list is
+-- shorter than its need.
+unfoldable pub numberOf : ℕ → Bool → ℕ → ℕ → ℕ
+unfolding first when
+numberOf cause form need room = first (when (not form) cause) (when (ltb room need) 8)
+
+module _ (cause : ℕ) (form : Bool) (need room : ℕ) where
+  pub no-form : form ≡ false → 0 < cause → numberOf cause form need room ≡ cause
+  unfolding numberOf
+  no-form h p = rw h (first-some cause (when (ltb room need) 8) p)
+
+  pub too-short : form ≡ true → room < need → numberOf cause form need room ≡ 8
+  unfolding numberOf
+  too-short h l = rw (h, lt-ltb room need l) refl
+
+  pub no-cause : form ≡ true → need ≤ room → numberOf cause form need room ≡ 0
+  unfolding numberOf
+  no-cause h l = rw (h, le-ltb room need l) refl
+
+  -- Accepted: a form, and room enough.
+  pub accepts : 0 < cause → numberOf cause form need room ≡ 0 → (form ≡ true) × (need ≤ room)
+  unfolding numberOf
+  accepts p h =
+      let z = first-zero (when (not form) cause) (when (ltb room need) 8) h in
+      (not-false form (when-zero (not form) cause p (z .0)), ltb-false room need (when-zero (ltb room need) 8 (omega arith) (z .1)))
 
 -- What is written: all of `new` on acceptance, nothing on a refusal.
 unfoldable pub accepted : ℕ → List ℕ → List ℕ

@@ -1,21 +1,19 @@
 -- SVG path data of one cycle form: "M, x, one space, y of the first corner, then H with x and V with y by turns for the
 -- later corners, then Z. No other spaces, no leading zeros" (document 01, "Path, chain and picture").
 use mathlib.Core.Path.{_≡_, refl, sym, ap, _∙_}
-use mathlib.Core.Bool.{Bool, true, false, not}
+use mathlib.Core.Bool.{Bool, true, false}
 use mathlib.Core.List.{List, [], _∷_, _++_, append-nil, append-assoc}
 use Prim.Native.Nat.{ℕ, zero, suc, _+_, _-_, _*_, _%_, _≤_, _<_}
 use native.Mathlib.Decide.{ℕ-discrete}
 use native.Mathlib.Omega.{arith}
-use lib.Dec.{ltb}
 use native.Mathlib.Numerals.{add-one}
 use lib.ListN.{length, getD, drop, length-append, drop-of-length-le}
 use lib.Seq.{drop-cons}
-use Rattle.sequences.specs.Cases.{first, when}
 use Rattle.lattice.specs.Tests.{isEven, then-both, even-yes, even-not}
 use Rattle.lattice.specs.Directions.{xOf, yOf}
 use Rattle.lattice.specs.CycleForm.{inside, allInside, cycleForm, parts, inside-says}
 use Rattle.paths.specs.Decimal.{decimal, decimal-length}
-use Rattle.paths.specs.Answers.{Writes}
+use Rattle.paths.specs.Answers.{Writes, numberOf}
 use Rattle.paths.specs.declared.Written.{Written}
 
 -- What is written for the corner at the place i: M (byte 77), x, a space (32) and y for the first; then H (72) with x at the
@@ -38,10 +36,8 @@ pathData cs = pathDataFrom 0 cs
 unfoldable pub svgNeed : List ℕ → ℕ
 svgNeed cs = 9 + 4 * length cs
 
--- "Paths and chains: 16 or 17, then 8" (document 01).
 unfoldable pub svgNumber : List ℕ → List ℕ → ℕ
-unfolding cycleForm svgNeed
-svgNumber cs text = first (when (not (cycleForm cs)) 16) (when (ltb (length text) (svgNeed cs)) 8)
+svgNumber cs text = numberOf 16 (cycleForm cs) (svgNeed cs) (length text)
 
 -- What the writer of path data promises of the corners, the text before and after, and the answer.
 abbrev pub Svg : List ℕ → List ℕ → List ℕ → Written → Type 0
