@@ -5,3 +5,4 @@ pub mod Answers
 pub mod Stores
 pub mod Underway
 pub mod Svg
+pub mod Stretch
