@@ -6,9 +6,10 @@ use mathlib.Core.Bool.{Bool, true, false, not, _&&_}
 use mathlib.Core.List.{List, [], _∷_}
 use Prim.Native.Nat.{ℕ, zero, suc, _+_, _%_, _≤_, _<_}
 use native.Mathlib.Nat.{add-zero, zero-add}
-use native.Mathlib.Decide.{ℕ-discrete}
+use native.Mathlib.Decide.{ℕ-discrete, decLt}
+use native.Mathlib.Numerals.{add-one}
 use native.Mathlib.Omega.{arith}
-use lib.ListN.{length, getD}
+use lib.ListN.{length, getD, List·getD-eq-default}
 use lib.Dec.{eqb, leb, ltb}
 use borrow.Author.Tests.{eq-eqb, ne-eqb, eqb-true, eqb-false, leb-true, le-leb, ltb-true, lt-ltb}
 use Rattle.lattice.specs.Tests.{and-both, and-true-true, then-both, not-flips, isEven, zero-even, even-yes, even-not, even-next}
@@ -224,3 +225,23 @@ parts-of (c ∷ d ∷ cs) f =
 -- The test holds exactly for a cycle form.
 pub cycle-form : (cs : List ℕ) → (cycleForm cs ≡ true) ↔ CycleForm cs
 cycle-form cs = (λ h. form-of cs (parts cs h), λ f. from-parts cs (parts-of cs f))
+
+same-entry : (l : List ℕ) (i a b : ℕ) → i < length l → getD l i a ≡ getD l i b
+same-entry [] i a b h = absurd (omega arith)
+same-entry (x ∷ l) zero a b h = refl
+same-entry (x ∷ l) (suc i) a b h = same-entry l i a b (omega arith)
+
+pub after-inner : (cs : List ℕ) (i : ℕ) → i + 1 < length cs → after cs i ≡ getD cs (i + 1) 0
+unfolding after
+after-inner cs i h = rw add-one (same-entry cs (suc i) (getD cs 0 0) 0 (omega arith))
+
+pub after-last : (cs : List ℕ) (i : ℕ) → length cs ≤ i + 1 → after cs i ≡ getD cs 0 0
+unfolding after
+after-last cs i h = List·getD-eq-default cs (getD cs 0 0) (omega arith)
+
+pub after-inside : (cs : List ℕ) (i : ℕ) → allInside cs ≡ true → i < length cs → inside (after cs i) ≡ true
+after-inside cs i h l = pick (decLt (i + 1) (length cs))
+  where
+    pick : Dec (i + 1 < length cs) → inside (after cs i) ≡ true
+    pick (yes m) = rw (after-inner cs i m) (all-inside-at cs h (i + 1) m)
+    pick (no m) = rw (after-last cs i (omega arith)) (all-inside-at cs h 0 (omega arith))

@@ -4,7 +4,7 @@ use mathlib.Core.Logic.{_≢_}
 use mathlib.Core.Bool.{Bool, true, false, cond}
 use mathlib.Core.List.{List, [], _∷_, _++_}
 use Prim.Native.Nat.{ℕ, zero, suc, _+_, _-_, _*_, _/_, _%_, _≤_, _<_}
-use native.Mathlib.Decide.{decLt}
+use native.Mathlib.Decide.{ℕ-discrete, decLt}
 use native.Mathlib.Omega.{arith}
 use lib.ListN.{length}
 use lib.Dec.{eqb, ltb}
@@ -122,3 +122,25 @@ leg-y p q yp yq a = pick (decLt (yOf p) (yOf q))
 pub leg : (x : Bool) (p q : ℕ) → inside p ≡ true → inside q ≡ true → along x p q ≡ true → Leg x p q
 leg true p q hp hq h = leg-x p q (inside-says p hp .0) (inside-says q hq .0) (along-x-says p q h)
 leg false p q hp hq h = leg-y p q (inside-says p hp .1) (inside-says q hq .1) (along-y-says p q h)
+
+-- One of the four headings, with its distance.
+module _ (P : ℕ → ℕ → Type 0) (p q : ℕ)
+    (east : yOf p ≡ yOf q → xOf p < xOf q → P 0 (xOf q - xOf p)) (west : yOf p ≡ yOf q → xOf q ≤ xOf p → P 2 (xOf p - xOf q))
+    (south : yOf p ≢ yOf q → yOf p < yOf q → P 3 (yOf q - yOf p)) (north : yOf p ≢ yOf q → yOf q ≤ yOf p → P 1 (yOf p - yOf q)) where
+  pub one-of-four : P (heading p q) (distance p q)
+  one-of-four = pick (ℕ-discrete (yOf p) (yOf q)) (decLt (xOf p) (xOf q)) (decLt (yOf p) (yOf q))
+    where
+      pick : Dec (yOf p ≡ yOf q) → Dec (xOf p < xOf q) → Dec (yOf p < yOf q) → P (heading p q) (distance p q)
+      pick (yes s) (yes l) c = rw (heading-east p q s l, distance-east p q s l) (east s l)
+      pick (yes s) (no n) c = rw (heading-west p q s (omega arith), distance-west p q s (omega arith)) (west s (omega arith))
+      pick (no s) b (yes l) = rw (heading-south p q s l, distance-south p q s l) (south s l)
+      pick (no s) b (no n) = rw (heading-north p q s (omega arith), distance-north p q s (omega arith)) (north s (omega arith))
+
+pub heading-below : (p q : ℕ) → heading p q < 4
+heading-below p q = one-of-four (λ d k. d < 4) p q (λ s l. omega arith) (λ s l. omega arith) (λ s l. omega arith) (λ s l. omega arith)
+
+pub distance-most : (p q : ℕ) → inside p ≡ true → inside q ≡ true → distance p q ≤ 256
+distance-most p q hp hq =
+    let a = inside-says p hp in
+    let b = inside-says q hq in
+    one-of-four (λ d k. k ≤ 256) p q (λ s l. omega arith) (λ s l. omega arith) (λ s l. omega arith) (λ s l. omega arith)

@@ -6,3 +6,4 @@ pub mod Stores
 pub mod Underway
 pub mod Svg
 pub mod Stretch
+pub mod Chain
