@@ -9,13 +9,15 @@ use native.Mathlib.Numerals.{add-one}
 use native.Mathlib.Omega.{arith}
 use lib.ListN.{length, getD, drop, replicate, length-append, length-map, drop-of-length-le, List·getD-eq-default}
 use lib.Seq.{drop-cons}
+use borrow.Rule.Slice.PartMut.{midOf, putMid}
 use Rattle.lattice.specs.Tests.{then-both}
 use Rattle.lattice.specs.Directions.{digit, edge, move}
 use Rattle.lattice.specs.Walks.{run, straight, walkFrom, outline}
 use Rattle.lattice.specs.CycleForm.{inside, allInside, cycleForm, parts, after, all-inside-at}
 use Rattle.lattice.specs.Legs.{heading, distance, straight-is, heading-below, distance-most}
 use Rattle.lattice.specs.Outlines.{digit-edge, length-run}
-use Rattle.paths.specs.Answers.{Writes, numberOf}
+use Rattle.paths.specs.Answers.{Writes, Put, numberOf}
+use Rattle.paths.specs.Underway.{Underway, begin-with, room, piece}
 use Rattle.paths.specs.declared.Written.{Written}
 
 -- The byte of an edge.
@@ -132,3 +134,36 @@ length-onward close (p ∷ ps) hc h =
 pub edges-most : (cs : List ℕ) → 0 < length cs → allInside cs ≡ true → length (outline cs) ≤ 256 * length cs
 unfolding wayFrom
 edges-most cs l h = rw (← way-whole cs) (length-onward (getD cs 0 0) cs (all-inside-at cs h 0 l) h)
+
+-- The step at i, from the corner there to the next, which is q: room for it, from the room for the whole chain; and the chain
+-- once its bytes were put.
+module _ (cs : List ℕ) (i q : ℕ) (h : i < length cs) (next : q ≡ after cs i) {old now : List ℕ} {at : ℕ} (u : Underway (chainOf cs) (bytesOf (wayFrom cs i)) old now at) where
+  pub chain-room : length (outline cs) ≤ length old → at + distance (getD cs i 0) q ≤ length now
+  unfolding chainOf
+  chain-room fits = rw next (omega (arith, room u, length-bytes (wayFrom cs i), length-bytes (outline cs), length-next cs i h, u .long))
+
+  pub chain-step : {n : ℕ} (last : List ℕ) → length last ≡ length (midOf at (length now - at) now) → Put (bytesOf (straight (getD cs i 0) q)) (midOf at (length now - at) now) last n
+      → Underway (chainOf cs) (bytesOf (wayFrom cs (i + 1))) old (putMid at (length now - at) now last) (at + n)
+  chain-step last kept p =
+      piece (bytesOf (straight (getD cs i 0) q)) (bytesOf (wayFrom cs (i + 1))) last u
+      (chain-next cs i h ∙ ap (λ c. bytesOf (straight (getD cs i 0) c) ++ bytesOf (wayFrom cs (i + 1))) (sym next)) kept p
+
+pub chain-begin : (cs old : List ℕ) → Underway (chainOf cs) (bytesOf (wayFrom cs 0)) old old 0
+unfolding chainOf
+chain-begin cs old = begin-with (bytesOf (outline cs)) (bytesOf (wayFrom cs 0)) old (ap bytesOf (way-whole cs))
+
+-- One byte n times, taken off one by one.
+pub replicate-first : (n i b : ℕ) → i < n → replicate (n - i) b ≡ b ∷ replicate (n - (i + 1)) b
+replicate-first n i b h =
+    let e : n - i ≡ suc (n - (i + 1)) = omega arith in
+    ap (λ k. replicate k b) e
+
+pub replicate-all : (n b : ℕ) → replicate (n - 0) b ≡ replicate n b
+replicate-all n b =
+    let e : n - 0 ≡ n = omega arith in
+    ap (λ k. replicate k b) e
+
+pub replicate-none : (n i b : ℕ) → n ≤ i → replicate (n - i) b ≡ []
+replicate-none n i b h =
+    let e : n - i ≡ 0 = omega arith in
+    ap (λ k. replicate k b) e

@@ -19,6 +19,20 @@ pub record Underway (whole left old now : List ℕ) (at : ℕ) : Type 0 where
 pub begin : (whole old : List ℕ) → Underway whole whole old old 0
 begin whole old = record { done = []; at-is = refl; list = sym (over-none old); long = refl; total = refl }
 
+pub begin-with : (whole left old : List ℕ) → left ≡ whole → Underway whole left old old 0
+begin-with whole left old e = record { done = []; at-is = refl; list = sym (over-none old); long = refl; total = e }
+
+-- All is written.
+pub ended : {whole left old now : List ℕ} {at : ℕ} → Underway whole left old now at → left ≡ [] → Put whole old now at
+ended {whole} {left} {old} {now} {at} u e =
+    record {
+      count-is = u .at-is ∙ ap length (same e);
+      list = u .list ∙ ap (λ l. over l old) (same e);
+    }
+  where
+    same : left ≡ [] → u .done ≡ whole
+    same e = sym (append-nil (u .done)) ∙ ap (λ l. u .done ++ l) (sym e) ∙ u .total
+
 pub finish : {whole old now : List ℕ} {at : ℕ} → Underway whole [] old now at → Put whole old now at
 finish {whole} {old} {now} {at} u =
     let e : u .done ≡ whole = sym (append-nil (u .done)) ∙ u .total in
