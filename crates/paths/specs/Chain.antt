@@ -167,3 +167,10 @@ pub replicate-none : (n i b : ℕ) → n ≤ i → replicate (n - i) b ≡ []
 replicate-none n i b h =
     let e : n - i ≡ 0 = omega arith in
     ap (λ k. replicate k b) e
+
+-- The unit edges of a cycle form fit 32 bits.
+pub chain-fits : (cs : List ℕ) → cycleForm cs ≡ true → length (chainOf cs) ≤ 67108864
+unfolding chainOf
+chain-fits cs h =
+    let p = parts cs h in
+    omega (arith, length-bytes (outline cs), edges-most cs (omega (arith, p .least)) (p .within), p .most)
