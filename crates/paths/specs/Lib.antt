@@ -7,3 +7,5 @@ pub mod Underway
 pub mod Svg
 pub mod Stretch
 pub mod Chain
+pub mod ChainForm
+pub mod Reading
