@@ -113,7 +113,7 @@ last-of-walk (q ∷ qs) x e p first hp hf hs h =
     ap (λ l. digit l % 2) (last-append e (straight p q) (walkFrom q qs first))
     ∙ last-of-walk qs (not x) (lastOf e (straight p q)) q first (f .there) hf (f .others) (f .onward)
 
-corners-are : (e : ℕ) (es : List ℕ) → 0 < length es → corners es ≡ turns (digit (lastOf e es)) es
+pub corners-are : (e : ℕ) (es : List ℕ) → 0 < length es → corners es ≡ turns (digit (lastOf e es)) es
 unfolding corners lastOf
 corners-are e [] h = absurd (omega arith)
 corners-are e (x ∷ es) h = refl

@@ -2,7 +2,7 @@
 -- digit 1 or 3, no digit followed by its opposite, at most 262,144 corners" (document 01).
 use mathlib.Core.Path.{_≡_, refl, sym, ap, _∙_}
 use mathlib.Core.Logic.{_≢_, _↔_, _⊎_, inl, inr}
-use mathlib.Core.Bool.{Bool, true, false, not, _&&_, _||_}
+use mathlib.Core.Bool.{Bool, true, false, not, cond, _&&_, _||_}
 use mathlib.Core.List.{List, [], _∷_}
 use Prim.Native.Nat.{ℕ, zero, suc, _+_, _-_, _≤_, _<_}
 use native.Mathlib.Omega.{arith}
@@ -51,8 +51,11 @@ lastByte bs = lastOf 0 bs
 unfoldable pub firstEast : List ℕ → Bool
 firstEast bs = eqb (getD bs 0 0) 48
 
+unfoldable pub isAcross : ℕ → Bool
+isAcross b = eqb b 49 || eqb b 51
+
 unfoldable pub lastAcross : List ℕ → Bool
-lastAcross bs = eqb (lastByte bs) 49 || eqb (lastByte bs) 51
+lastAcross bs = isAcross (lastByte bs)
 
 unfoldable pub closes : ℕ → List ℕ → Bool
 closes start bs = leads (digitOf (lastByte bs)) start bs start
@@ -80,3 +83,7 @@ pub record ChainForm (start : ℕ) (bs : List ℕ) : Type 0 where
   pub last-digit : (lastByte bs ≡ 49) ⊎ (lastByte bs ≡ 51)
   pub no-reversal : (i : ℕ) → i + 1 < length bs → digitOf (getD bs (i + 1) 0) ≢ opposite (digitOf (getD bs i 0))
   pub at-most : length (cornersOf start bs) ≤ 262144
+
+-- How many corners a chain gives, 0 if it has not the form: the number by which the code knows it.
+unfoldable pub cornerCount : ℕ → List ℕ → ℕ
+cornerCount start bs = cond (chainForm start bs) (length (cornersOf start bs)) 0

@@ -9,3 +9,4 @@ pub mod Stretch
 pub mod Chain
 pub mod ChainForm
 pub mod Reading
+pub mod Counting

@@ -241,3 +241,7 @@ module _ {last start : ℕ} {bs old now : List ℕ} {i p d at : ℕ} (g : Drawin
 
 pub draw-end : {last start : ℕ} {bs old now : List ℕ} {i p d at : ℕ} → Drawing last start bs old now i p d at → length bs ≤ i → Put (turns last (walk start bs)) old now at
 draw-end {last} {start} {bs} {old} {now} {i} {p} {d} {at} g l = ended (g .list) (walk-end bs i d p l)
+
+pub one-at-most : (k : ℕ) (t : Bool) → k ≡ cond t 0 1 → k ≤ 1
+one-at-most k true e = omega arith
+one-at-most k false e = omega arith

@@ -9,6 +9,7 @@ ghost use Rattle.paths.specs.Svg.{Svg};
 
 mod edges;
 mod form;
+mod reading;
 mod text;
 
 // A writer's answer: 0 and how many bytes or corners it wrote, or the number of a cause and 0.
