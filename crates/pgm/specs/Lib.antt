@@ -1,0 +1,6 @@
+-- Binary PGM: white space, numbers, the header, the causes, the picture.
+pub mod Parser
+pub mod Space
+pub mod Number
+pub mod Header
+pub mod Picture
