@@ -4,3 +4,4 @@ pub mod Space
 pub mod Number
 pub mod Header
 pub mod Picture
+pub mod Steps

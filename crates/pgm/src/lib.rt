@@ -1,4 +1,6 @@
 // The reader of binary PGM (Netpbm, magic P5): the causes 10 to 14, and the raster as a part of the caller's bytes.
+mod header;
+
 ghost use mathlib.Core.Path.{_≡_};
 
 pub struct Picture {
