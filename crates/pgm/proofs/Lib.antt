@@ -1,3 +1,4 @@
 -- Laws that several proofs share.
 pub mod Places
 pub mod Sequence
+pub mod Digits

@@ -8,6 +8,7 @@ use lib.ListN.{length, drop, getD, drop-of-length-le}
 use lib.Seq.{drop-cons}
 use Rattle.pgm.specs.Parser.{Parsed, got, bad, byte}
 use Rattle.pgm.specs.Space.{isSpace, trimmed}
+use Rattle.pgm.specs.Number.{isDigit, digits, behind}
 
 module _ (xs : List ℕ) (at : ℕ) where
   -- Past the end.
@@ -19,6 +20,15 @@ module _ (xs : List ℕ) (at : ℕ) where
   unfolding trimmed
   trimmed-end h = rw (drop-of-length-le xs h) refl
 
+  pub digits-end : length xs ≤ at → digits (drop at xs) ≡ []
+  unfolding digits
+  digits-end h = rw (drop-of-length-le xs h) refl
+
+  pub behind-end : length xs ≤ at → behind (drop at xs) ≡ drop at xs
+  unfolding behind
+  behind-end h = rw (drop-of-length-le xs h) refl
+
+-- At a place inside.
 module _ (xs : List ℕ) (at : ℕ) (h : at < length xs) where
   pub here : drop at xs ≡ getD xs at 0 ∷ drop (at + 1) xs
   here = rw (add-one, drop-cons xs at 0) refl
@@ -38,3 +48,19 @@ module _ (xs : List ℕ) (at : ℕ) (h : at < length xs) where
   pub trimmed-stop : isSpace (getD xs at 0) ≡ false → trimmed (drop at xs) ≡ drop at xs
   unfolding trimmed
   trimmed-stop e = rw (here, e, trimmed) refl
+
+  pub digits-more : isDigit (getD xs at 0) ≡ true → digits (drop at xs) ≡ getD xs at 0 ∷ digits (drop (at + 1) xs)
+  unfolding digits
+  digits-more e = rw (here, e, digits) refl
+
+  pub digits-stop : isDigit (getD xs at 0) ≡ false → digits (drop at xs) ≡ []
+  unfolding digits
+  digits-stop e = rw (here, e, digits) refl
+
+  pub behind-more : isDigit (getD xs at 0) ≡ true → behind (drop at xs) ≡ behind (drop (at + 1) xs)
+  unfolding behind
+  behind-more e = rw (here, e, behind) refl
+
+  pub behind-stop : isDigit (getD xs at 0) ≡ false → behind (drop at xs) ≡ drop at xs
+  unfolding behind
+  behind-stop e = rw (here, e, behind) refl

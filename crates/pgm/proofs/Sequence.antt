@@ -6,9 +6,9 @@ use native.Mathlib.Omega.{arith}
 use lib.ListN.{length, drop}
 use Rattle.pgm.specs.Parser.{Parsed, refused, got, Parser, next}
 use Rattle.pgm.specs.Steps.{past, pastEnd, numbered, numberEnd, Passes, Numbers}
-use Rattle.pgm.specs.declared.header.Cursor.{Cursor}
-use Rattle.pgm.specs.declared.header.Past.{Past}
-use Rattle.pgm.specs.declared.header.Number.{Number}
+use Rattle.pgm.specs.declared.step.Cursor.{Cursor}
+use Rattle.pgm.specs.declared.step.Past.{Past}
+use Rattle.pgm.specs.declared.number.Number.{Number}
 
 module _ {bytes : List ℕ} {found : Parsed (Unit {0})} {r : Past} (p : Passes bytes found r) where
   pub past-bad : {B : Type 0} → r ≡ Past.Bad → (more : Unit {0} → Parser B) → next found more ≡ refused 10

@@ -2,6 +2,7 @@
 pub mod Parser
 pub mod Space
 pub mod Number
+pub mod NumberLaws
 pub mod Header
 pub mod Picture
 pub mod Steps

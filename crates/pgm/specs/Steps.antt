@@ -1,12 +1,14 @@
 -- What the enums of the code say: for each case document 01's number, or the values and the bytes from the next place on.
 use mathlib.Core.Path.{_≡_}
+use mathlib.Core.Bool.{cond}
 use mathlib.Core.List.{List}
 use Prim.Native.Nat.{ℕ, _≤_}
+use lib.Dec.{eqb}
 use lib.ListN.{length, drop}
 use Rattle.pgm.specs.Parser.{Parsed, refused, got}
 use Rattle.pgm.specs.Header.{Fields}
-use Rattle.pgm.specs.declared.header.Past.{Past}
-use Rattle.pgm.specs.declared.header.Number.{Number}
+use Rattle.pgm.specs.declared.step.Past.{Past}
+use Rattle.pgm.specs.declared.number.Number.{Number}
 use Rattle.pgm.specs.declared.header.Header.{Header}
 
 -- Bytes that had to be there: a bad header (10), or the bytes past them.
@@ -18,6 +20,10 @@ past bytes (Past.At c) = got tt (drop (c .at) bytes)
 abbrev pub numbered : List ℕ → Number → Parsed ℕ
 numbered bytes Number.Bad = refused 10
 numbered bytes (Number.Value v c) = got v (drop (c .at) bytes)
+
+-- A number whose digits end at a place: it has at least one.
+abbrev pub stopped : ℕ → ℕ → ℕ → Number
+stopped count value at = cond (eqb count 0) Number.Bad (Number.Value value (record { at = at }))
 
 -- A header: a bad one (10), or its fields and the raster.
 abbrev pub headed : List ℕ → Header → Parsed Fields

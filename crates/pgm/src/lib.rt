@@ -1,5 +1,8 @@
 // The reader of binary PGM (Netpbm, magic P5): the causes 10 to 14, and the raster as a part of the caller's bytes.
 mod header;
+mod number;
+mod space;
+mod step;
 
 ghost use mathlib.Core.Path.{_≡_};
 

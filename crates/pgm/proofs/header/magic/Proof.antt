@@ -8,7 +8,7 @@ use Rattle.pgm.proofs.header.magic.Statement.{statement}
 use Rattle.pgm.proofs.header.magic.Tie as tie
 use Rattle.pgm.proofs.header.magic.Reads as reads
 use Rattle.pgm.proofs.header.magic.Lts as lts
-use Rattle.pgm.proofs.header.exact.Reads as exact-reads
+use Rattle.pgm.proofs.step.exact.Reads as exact-reads
 
 -- src/header.rt:59:23
 exact-requires : tie.Need-exact-requires

@@ -3,10 +3,10 @@ use borrow.Author.Tests.{eq-eqb, ne-eqb}
 use Rattle.pgm.proofs.Places.{byte-end, byte-yes, byte-no}
 use mathlib.Core.Path.{sym}
 use borrow.Author.Needs.{needs}
-use Rattle.pgm.proofs.header.exact.Statement.{statement}
-use Rattle.pgm.proofs.header.exact.Tie as tie
-use Rattle.pgm.proofs.header.exact.Reads as reads
-use Rattle.pgm.proofs.header.exact.Lts as lts
+use Rattle.pgm.proofs.step.exact.Statement.{statement}
+use Rattle.pgm.proofs.step.exact.Tie as tie
+use Rattle.pgm.proofs.step.exact.Reads as reads
+use Rattle.pgm.proofs.step.exact.Lts as lts
 
 -- src/header.rt:46:9
 returns : tie.Need-returns

@@ -4,12 +4,12 @@ use Rattle.pgm.specs.Parser.{got}
 use Rattle.pgm.specs.Space.{spaces}
 use Rattle.pgm.proofs.Sequence.{past-bad, past-on, past-inside}
 use borrow.Author.Needs.{needs}
-use Rattle.pgm.proofs.header.spaces.Statement.{statement}
-use Rattle.pgm.proofs.header.spaces.Tie as tie
-use Rattle.pgm.proofs.header.spaces.Reads as reads
-use Rattle.pgm.proofs.header.spaces.Lts as lts
-use Rattle.pgm.proofs.header.space.Reads as space-reads
-use Rattle.pgm.proofs.header.trim.Reads as trim-reads
+use Rattle.pgm.proofs.space.spaces.Statement.{statement}
+use Rattle.pgm.proofs.space.spaces.Tie as tie
+use Rattle.pgm.proofs.space.spaces.Reads as reads
+use Rattle.pgm.proofs.space.spaces.Lts as lts
+use Rattle.pgm.proofs.space.space.Reads as space-reads
+use Rattle.pgm.proofs.space.trim.Reads as trim-reads
 
 -- src/header.rt:116:26
 space-requires : tie.Need-space-requires

@@ -7,11 +7,11 @@ use Prim.Native.Nat.{ℕ, _≤_, _<_, _-_, _+_}
 use native.Mathlib.Omega.{arith}
 use lib.ListN.{length, take, drop, getD, set}
 use borrow.Author.Needs.{needs}
-use Rattle.pgm.proofs.header.trim.Statement.{statement}
-use Rattle.pgm.proofs.header.trim.Tie as tie
-use Rattle.pgm.proofs.header.trim.Reads as reads
-use Rattle.pgm.proofs.header.trim.Lts as lts
-use Rattle.pgm.proofs.header.is_space.Reads as is-space-reads
+use Rattle.pgm.proofs.space.trim.Statement.{statement}
+use Rattle.pgm.proofs.space.trim.Tie as tie
+use Rattle.pgm.proofs.space.trim.Reads as reads
+use Rattle.pgm.proofs.space.trim.Lts as lts
+use Rattle.pgm.proofs.space.is_space.Reads as is-space-reads
 
 abbrev Inv-loop : tie.InvT-loop
 Inv-loop bytes from at₀ at = (at ≤ length bytes) × (trimmed (drop at bytes) ≡ trimmed (drop from bytes))

@@ -3,11 +3,11 @@ use native.Mathlib.Omega.{arith}
 use Rattle.pgm.specs.Space.{space}
 use Rattle.pgm.proofs.Places.{byte-end, byte-yes, byte-no}
 use borrow.Author.Needs.{needs}
-use Rattle.pgm.proofs.header.space.Statement.{statement}
-use Rattle.pgm.proofs.header.space.Tie as tie
-use Rattle.pgm.proofs.header.space.Reads as reads
-use Rattle.pgm.proofs.header.space.Lts as lts
-use Rattle.pgm.proofs.header.is_space.Reads as is-space-reads
+use Rattle.pgm.proofs.space.space.Statement.{statement}
+use Rattle.pgm.proofs.space.space.Tie as tie
+use Rattle.pgm.proofs.space.space.Reads as reads
+use Rattle.pgm.proofs.space.space.Lts as lts
+use Rattle.pgm.proofs.space.is_space.Reads as is-space-reads
 
 -- src/header.rt:78:9
 returns : tie.Need-returns

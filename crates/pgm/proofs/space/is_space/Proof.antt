@@ -4,10 +4,10 @@ use mathlib.Core.Path.{refl, _≡_, sym}
 use borrow.Author.Tests.{eq-eqb, ne-eqb}
 use Rattle.pgm.specs.Space.{isSpace}
 use borrow.Author.Needs.{needs}
-use Rattle.pgm.proofs.header.is_space.Statement.{statement}
-use Rattle.pgm.proofs.header.is_space.Tie as tie
-use Rattle.pgm.proofs.header.is_space.Reads as reads
-use Rattle.pgm.proofs.header.is_space.Lts as lts
+use Rattle.pgm.proofs.space.is_space.Statement.{statement}
+use Rattle.pgm.proofs.space.is_space.Tie as tie
+use Rattle.pgm.proofs.space.is_space.Reads as reads
+use Rattle.pgm.proofs.space.is_space.Lts as lts
 
 last : (b : ℕ) → (b ≡ 32 → ⊥) → (b ≡ 9 → ⊥) → (b ≡ 10 → ⊥) → isSpace b ≡ eqb b 13
 unfolding isSpace
