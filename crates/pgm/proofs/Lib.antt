@@ -2,3 +2,4 @@
 pub mod Places
 pub mod Sequence
 pub mod Digits
+pub mod Search

@@ -4,11 +4,13 @@ use mathlib.Core.Bool.{Bool, true, false}
 use mathlib.Core.List.{List, [], _∷_}
 use Prim.Native.Nat.{ℕ, _+_, _≤_, _<_}
 use native.Mathlib.Numerals.{add-one}
+use borrow.Author.Tests.{le-leb, lt-leb}
 use lib.ListN.{length, drop, getD, drop-of-length-le}
 use lib.Seq.{drop-cons}
 use Rattle.pgm.specs.Parser.{Parsed, got, bad, byte}
 use Rattle.pgm.specs.Space.{isSpace, trimmed}
 use Rattle.pgm.specs.Number.{isDigit, digits, behind}
+use Rattle.pgm.specs.Picture.{within}
 
 module _ (xs : List ℕ) (at : ℕ) where
   -- Past the end.
@@ -27,6 +29,10 @@ module _ (xs : List ℕ) (at : ℕ) where
   pub behind-end : length xs ≤ at → behind (drop at xs) ≡ drop at xs
   unfolding behind
   behind-end h = rw (drop-of-length-le xs h) refl
+
+  pub within-end : (maxval : ℕ) → length xs ≤ at → within maxval (drop at xs) ≡ true
+  unfolding within
+  within-end maxval h = rw (drop-of-length-le xs h) refl
 
 -- At a place inside.
 module _ (xs : List ℕ) (at : ℕ) (h : at < length xs) where
@@ -64,3 +70,11 @@ module _ (xs : List ℕ) (at : ℕ) (h : at < length xs) where
   pub behind-stop : isDigit (getD xs at 0) ≡ false → behind (drop at xs) ≡ drop at xs
   unfolding behind
   behind-stop e = rw (here, e, behind) refl
+
+  pub within-more : (maxval : ℕ) → getD xs at 0 ≤ maxval → within maxval (drop at xs) ≡ within maxval (drop (at + 1) xs)
+  unfolding within
+  within-more maxval e = rw (here, le-leb (getD xs at 0) maxval e, within) refl
+
+  pub within-stop : (maxval : ℕ) → maxval < getD xs at 0 → within maxval (drop at xs) ≡ false
+  unfolding within
+  within-stop maxval e = rw (here, lt-leb (getD xs at 0) maxval e, within) refl

@@ -4,5 +4,7 @@ pub mod Space
 pub mod Number
 pub mod NumberLaws
 pub mod Header
+pub mod Exponent
 pub mod Picture
+pub mod PictureLaws
 pub mod Steps

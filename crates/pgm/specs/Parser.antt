@@ -36,6 +36,7 @@ unfoldable pub byte : (ℕ → Bool) → Parser (Unit {0})
 byte test [] = bad
 byte test (b ∷ bytes) = elim (test b) [ true ↦ got tt bytes | false ↦ bad ]
 
--- Takes nothing and refuses with a number where a test of the bytes ahead fails.
-unfoldable pub demand : ℕ → (List ℕ → Bool) → Parser (Unit {0})
-demand number test bytes = elim (test bytes) [ true ↦ got tt bytes | false ↦ refused number ]
+-- What follows where a test passes, and a refusal with a number where it fails.
+unfoldable pub demand : {A : Type 0} → ℕ → Bool → Parsed A → Parsed A
+demand number true more = more
+demand number false more = refused number

@@ -1,22 +1,14 @@
 -- The causes 10 to 14 in their order, and what a reader says of a file.
+use mathlib.Core.Path.{_≡_}
 use mathlib.Core.Bool.{Bool, true, false, _&&_}
 use mathlib.Core.List.{List, [], _∷_}
-use Prim.Native.Nat.{ℕ, zero, suc, _+_, _*_, _-_, _^_}
+use Prim.Native.Nat.{ℕ, _*_, _-_}
 use lib.Dec.{leb, eqb}
 use lib.ListN.{length, take, drop}
 use Rattle.pgm.specs.Parser.{Parsed, refused, got, Parser, next, demand, give, _>>=_, _>>_}
 use Rattle.pgm.specs.Header.{Fields, header}
+use Rattle.pgm.specs.Exponent.{exponent}
 use Rattle.pgm.specs.declared.Picture.{Picture}
-
--- The first k from n on, of `left` many, with 2^k = width; past them all where there is none.
-unfoldable pub exponentFrom : ℕ → ℕ → ℕ → ℕ
-exponentFrom zero n width = n
-exponentFrom (suc left) n width = elim (eqb (2 ^ n) width) [ true ↦ n | false ↦ exponentFrom left (n + 1) width ]
-
--- The n from 0 to 8 with 2^n = width, and 9 where there is none.
-unfoldable pub exponent : ℕ → ℕ
-unfolding exponentFrom
-exponent width = exponentFrom 9 0 width
 
 -- Width and height equal, and a power of two from 1 to 256.
 unfoldable pub square : Fields → Bool
@@ -28,16 +20,25 @@ unfoldable pub within : ℕ → List ℕ → Bool
 within maxval [] = true
 within maxval (b ∷ bytes) = elim (leb b maxval) [ true ↦ within maxval bytes | false ↦ false ]
 
+-- Maxval from 1 to 255.
+unfoldable pub ranged : Fields → Bool
+ranged f = leb 1 (f .maxval) && leb (f .maxval) 255
+
+-- Raster bytes exactly width times height.
+unfoldable pub filled : Fields → List ℕ → Bool
+filled f raster = eqb (length raster) (f .width * f .height)
+
+-- The causes 11 to 14 in rising order, asked of what a whole header leaves.
+unfoldable pub judged : Fields → Parser Fields
+unfolding square ranged filled within demand
+judged f raster = demand 11 (square f) (demand 12 (ranged f) (demand 13 (filled f raster) (demand 14 (within (f .maxval) raster) (got f raster))))
+
 -- "PGM: rising" (document 01, the order of the checks): the whole header is judged before 11.
 unfoldable pub picture : Parser Fields
-unfolding header square within demand next
+unfolding header judged next
 picture = do
   f ← header
-  demand 11 (λ _. square f)
-  demand 12 (λ _. leb 1 (f .maxval) && leb (f .maxval) 255)
-  demand 13 (λ raster. eqb (length raster) (f .width * f .height))
-  demand 14 (λ raster. within (f .maxval) raster)
-  give f
+  judged f
 
 -- "number, zeros, the empty stretch at 0".
 unfoldable pub refusal : ℕ → Picture
@@ -57,3 +58,12 @@ answer bytes = said bytes (picture bytes)
 unfoldable pub stretch : List ℕ → List ℕ
 unfolding answer
 stretch bytes = take (answer bytes .length) (drop (answer bytes .start) bytes)
+
+-- The promises of the two readers: the answer or the stretch of the bytes as they were lent, and the bytes unchanged.
+pub record Answered (bytes after : List ℕ) (r : Picture) : Type 0 where
+  pub answered : r ≡ answer bytes
+  pub unchanged : after ≡ bytes
+
+pub record HandedBack (bytes after r : List ℕ) : Type 0 where
+  pub handed : r ≡ stretch bytes
+  pub unchanged : after ≡ bytes

@@ -1,0 +1,34 @@
+use borrow.Author.Needs.{needs}
+use Rattle.pgm.proofs.raster.Statement.{statement}
+use Rattle.pgm.proofs.raster.Tie as tie
+use Rattle.pgm.proofs.raster.Reads as reads
+use Rattle.pgm.proofs.raster.Lts as lts
+use Rattle.pgm.proofs.read.Reads as read-reads
+
+-- src/lib.rt:91:9
+read-requires : tie.Need-read-requires
+read-requires c κs = search needs
+
+-- src/lib.rt:93:15
+add-end : tie.Need-add-end
+add-end c = search needs
+
+-- src/lib.rt:94:5
+sub-result : tie.Need-sub-result
+sub-result c = search needs
+
+-- src/lib.rt:94:5
+part-result-start : tie.Need-part-result-start
+part-result-start c = search needs
+
+-- src/lib.rt:94:5
+part-result-end : tie.Need-part-result-end
+part-result-end c = search needs
+
+-- src/lib.rt:88:1
+returns : tie.Need-returns
+returns c = search needs
+
+pub raster-spec : {M : Type 1} → statement M
+raster-spec =
+    tie.close (tie.spec read-requires add-end sub-result part-result-start part-result-end returns)
