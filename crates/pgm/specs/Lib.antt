@@ -7,4 +7,7 @@ pub mod Header
 pub mod Exponent
 pub mod Picture
 pub mod PictureLaws
+pub mod File
+pub mod Layout
+pub mod FileLaws
 pub mod Steps
