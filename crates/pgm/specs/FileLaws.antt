@@ -4,6 +4,7 @@ use mathlib.Core.Bool.{Bool, true, false, _||_, true≢false}
 use mathlib.Core.Logic.{_↔_}
 use mathlib.Core.List.{List, [], _∷_, _++_, append-assoc}
 use Prim.Native.Nat.{ℕ, _+_, _-_, _≤_}
+use native.Mathlib.Decide.{decLe}
 use native.Mathlib.Omega.{arith}
 use borrow.Author.Tests.{eqb-true, eq-eqb, ne-eqb}
 use lib.Dec.{eqb}
@@ -11,8 +12,8 @@ use lib.ListN.{length, drop, length-append}
 use lib.Seq.{drop-at}
 use Rattle.pgm.specs.Parser.{Parsed, refused, got, bad, Parser, next, byte}
 use Rattle.pgm.specs.Space.{isSpace, space, spaces}
-use Rattle.pgm.specs.Number.{isDigit, number}
-use Rattle.pgm.specs.NumberLaws.{digit-range}
+use Rattle.pgm.specs.Number.{isDigit, digits, number}
+use Rattle.pgm.specs.NumberLaws.{digit-range, number-good, number-none, number-long}
 use Rattle.pgm.specs.Header.{Fields, magic, field, header}
 use Rattle.pgm.specs.File.{Each, none, more, White, Numeral, File}
 use Rattle.pgm.specs.Layout.{Stops, ended, other, not-got, next-passed, next-on, byte-taken, byte-takes, spaces-taken, spaces-takes, number-taken, number-takes}
@@ -168,5 +169,65 @@ module _ (bytes raster : List ℕ) (f : Fields) (x : File bytes f raster) where
       ap (drop (length bytes - length raster)) (front-raster x) ∙ drop-at (front x) raster (length bytes - length raster) long
 
 -- The header parser refuses with 10 alone.
-refuses-10 : {A : Type 0} → Parser A → Type 0
-refuses-10 p = (bytes : List ℕ) (k : ℕ) → p bytes ≡ refused k → k ≡ 10
+Refuses10 : {A : Type 0} → Parser A → Type 0
+Refuses10 {A} p = (bytes : List ℕ) (k : ℕ) → _≡_ {A = Parsed A} (p bytes) (refused k) → k ≡ 10
+
+same-number : {A : Type 0} {j k : ℕ} → _≡_ {A = Parsed A} (refused j) (refused k) → k ≡ j
+same-number e = cc
+
+never-refused : {A : Type 0} {a : A} {rest : List ℕ} {k j : ℕ} → _≡_ {A = Parsed A} (got a rest) (refused k) → k ≡ j
+never-refused e = absurd (not-got (sym e))
+
+byte-10 : (test : ℕ → Bool) → Refuses10 (byte test)
+unfolding Refuses10 byte
+byte-10 test [] k e = same-number e
+byte-10 test (b ∷ bytes) k e = pick (test b) refl
+  where
+    pick : (t : Bool) → test b ≡ t → k ≡ 10
+    pick true h = never-refused (sym (byte-takes test b bytes h) ∙ e)
+    pick false h = same-number (sym (rw (h, byte) refl) ∙ e)
+
+next-10 : {A B : Type 0} (p : Parsed A) (then : A → Parser B) (k : ℕ) → ((j : ℕ) → p ≡ refused j → j ≡ 10) → ((a : A) → Refuses10 (then a))
+    → next p then ≡ refused k → k ≡ 10
+unfolding Refuses10 next
+next-10 (refused j) then k h g e = h k (ap refused (sym (same-number e)))
+next-10 (got a rest) then k h g e = g a rest k e
+
+number-10 : Refuses10 number
+unfolding Refuses10
+number-10 bytes k e = go (decLe 1 (length (digits bytes))) (decLe (length (digits bytes)) 5)
+  where
+    go : Dec (1 ≤ length (digits bytes)) → Dec (length (digits bytes) ≤ 5) → k ≡ 10
+    go (no d) b = same-number (sym (number-none bytes (omega arith)) ∙ e)
+    go (yes some) (no d) = same-number (sym (number-long bytes (omega arith)) ∙ e)
+    go (yes some) (yes few) = never-refused (sym (number-good bytes some few) ∙ e)
+
+spaces-10 : Refuses10 spaces
+unfolding Refuses10 spaces
+spaces-10 bytes k e = next-10 (space bytes) _ k (byte-10 isSpace bytes) (λ _ l j h. never-refused h) e
+
+field-10 : Refuses10 field
+unfolding Refuses10 field
+field-10 bytes k e = next-10 (spaces bytes) _ k (spaces-10 bytes) (λ _. number-10) e
+
+magic-10 : Refuses10 magic
+unfolding Refuses10 magic
+magic-10 bytes k e = next-10 (byte (λ b. eqb b 80) bytes) _ k (byte-10 _ bytes) (λ _. byte-10 _) e
+
+pub header-10 : (bytes : List ℕ) (k : ℕ) → header bytes ≡ refused k → k ≡ 10
+unfolding Refuses10 header space
+header-10 bytes k e =
+    next-10 (magic bytes) _ k (magic-10 bytes)
+    (λ _ l1 k1. next-10 (field l1) _ k1 (field-10 l1)
+    (λ w l2 k2. next-10 (field l2) _ k2 (field-10 l2)
+    (λ h l3 k3. next-10 (field l3) _ k3 (field-10 l3)
+    (λ m l4 k4. next-10 (space l4) _ k4 (byte-10 isSpace l4) (λ _ l5 k5 e. never-refused e)))))
+    e
+
+-- A bad header is exactly what is no file.
+pub bad-header-exactly : (bytes : List ℕ) → header bytes ≡ refused 10 ↔ ((f : Fields) (raster : List ℕ) → File bytes f raster → ⊥)
+bad-header-exactly bytes = (λ e f raster x. not-got (sym e ∙ file-is-header bytes raster f x), λ d. go (header bytes) refl d)
+  where
+    go : (p : Parsed Fields) → header bytes ≡ p → ((f : Fields) (raster : List ℕ) → File bytes f raster → ⊥) → header bytes ≡ refused 10
+    go (refused k) e d = e ∙ ap refused (header-10 bytes k e)
+    go (got f raster) e d = absurd (d f raster (header-is-file bytes raster f e))
