@@ -10,4 +10,5 @@ pub mod PictureLaws
 pub mod File
 pub mod Layout
 pub mod FileLaws
+pub mod Accepted
 pub mod Steps
