@@ -1,7 +1,7 @@
 -- Accepted pictures: what number 0 says of a file, and the other way round; and what a refusal says.
-use mathlib.Core.Path.{_≡_, refl, sym, ap, _∙_}
+use mathlib.Core.Path.{_≡_, refl, sym, ap, _∙_, subst⁻¹}
 use mathlib.Core.Bool.{Bool, true, false, _&&_, false≢true}
-use mathlib.Core.Logic.{_⊎_, inl, inr}
+use mathlib.Core.Logic.{_⊎_, inl, inr, ⊎-elim}
 use mathlib.Core.List.{List, [], _∷_, _++_}
 use Prim.Native.Nat.{ℕ, zero, suc, _+_, _*_, _-_, _^_, _≤_, _<_}
 use native.Mathlib.Omega.{arith}
@@ -14,7 +14,7 @@ use Rattle.pgm.specs.Parser.{Parsed, refused, got, Parser, next, demand}
 use Rattle.pgm.specs.Header.{Fields, header}
 use Rattle.pgm.specs.Exponent.{exponent, exponent-power, exponent-of-power}
 use Rattle.pgm.specs.Picture.{square, ranged, filled, within, judged, picture, refusal, said, answer, stretch}
-use Rattle.pgm.specs.PictureLaws.{no-cause}
+use Rattle.pgm.specs.PictureLaws.{no-cause, said-refused}
 use Rattle.pgm.specs.File.{File}
 use Rattle.pgm.specs.Layout.{not-got, next-on}
 use Rattle.pgm.specs.FileLaws.{header-is-file, file-is-header, header-10, bad-header-exactly, raster-short, raster-at-end}
@@ -87,3 +87,75 @@ module _ (bytes raster : List ℕ) (n m : ℕ) (a : Accepted bytes n m raster) w
   unfolding stretch
   accepted-stretch =
       rw accepted-answer (ap (take (length raster)) (raster-at-end bytes raster _ (a .file)) ∙ take-length raster)
+
+-- Each file that passes is accepted.
+made-accepted : {bytes raster : List ℕ} {n w h m : ℕ} → File bytes (record { width = w; height = h; maxval = m }) raster → 2 ^ n ≡ w → w ≡ h
+    → n ≤ 8 → 1 ≤ m → m ≤ 255 → length raster ≡ w * h → within m raster ≡ true → Accepted bytes n m raster
+made-accepted {bytes} {raster} {n} {w} {h} {m} x power equal side low high full each =
+    record {
+      file = subst⁻¹ (λ (a : ℕ). File bytes (record { width = a; height = 2 ^ n; maxval = m }) raster) power
+      (subst⁻¹ (λ (b : ℕ). File bytes (record { width = w; height = b; maxval = m }) raster) (power ∙ equal) x);
+      side = side;
+      low = low;
+      high = high;
+      full = full ∙ rw (power, equal) refl;
+      samples = within-each m raster each;
+    }
+
+passed-accepted : (bytes raster rest : List ℕ) (f g : Fields) → File bytes f raster → judged f raster ≡ got g rest
+    → Accepted bytes (exponent (f .width)) (f .maxval) raster
+unfolding judged square ranged filled
+passed-accepted bytes raster rest f g x e =
+    let (s, e1) = demand-passed 11 (square f) _ e in
+    let (r, e2) = demand-passed 12 (ranged f) _ e1 in
+    let (l, e3) = demand-passed 13 (filled f raster) _ e2 in
+    let (w, e4) = demand-passed 14 (within (f .maxval) raster) _ e3 in
+    let (equal, power) = both (eqb (f .width) (f .height)) (leb (exponent (f .width)) 8) s in
+    let (low, high) = both (leb 1 (f .maxval)) (leb (f .maxval) 255) r in
+    let side : exponent (f .width) ≤ 8 = leb-true _ 8 power in
+    made-accepted x (exponent-power (f .width) side) (eqb-true (f .width) (f .height) equal) side (leb-true 1 _ low) (leb-true _ 255 high)
+    (eqb-true (length raster) (f .width * f .height) l) w
+
+-- A refusal past the header is one of 11 to 14.
+demand-refused : {A : Type 0} {j : ℕ} (k : ℕ) (t : Bool) (then : Parsed A) → demand k t then ≡ refused j → (j ≡ k) ⊎ (then ≡ refused j)
+unfolding demand
+demand-refused k true then e = inr e
+demand-refused k false then e = inl (cc)
+
+judged-refused : (raster : List ℕ) (f : Fields) (j : ℕ) → judged f raster ≡ refused j → (11 ≤ j) × (j ≤ 14)
+unfolding judged
+judged-refused raster f j e =
+    ⊎-elim (λ h. omega arith)
+    (λ e1. ⊎-elim (λ h. omega arith)
+    (λ e2. ⊎-elim (λ h. omega arith)
+    (λ e3. ⊎-elim (λ h. omega arith) (λ e4. absurd (not-got (sym e4))) (demand-refused 14 (within (f .maxval) raster) _ e3))
+    (demand-refused 13 (filled f raster) _ e2))
+    (demand-refused 12 (ranged f) _ e1))
+    (demand-refused 11 (square f) _ e)
+
+-- Each list of bytes is an accepted picture or is refused by a cause of the table, 10 to 14.
+pub record Refused (bytes : List ℕ) : Type 0 where
+  pub number : ℕ
+  pub least : 10 ≤ number
+  pub most : number ≤ 14
+  pub says : answer bytes ≡ refusal number
+
+pub record Passed (bytes : List ℕ) : Type 0 where
+  pub n : ℕ
+  pub maxval : ℕ
+  pub raster : List ℕ
+  pub accepted : Accepted bytes n maxval raster
+
+pub accepted-or-refused : (bytes : List ℕ) → Passed bytes ⊎ Refused bytes
+accepted-or-refused bytes = go (header bytes) refl
+  where
+    judge : (f : Fields) (raster : List ℕ) → File bytes f raster → (q : Parsed Fields) → judged f raster ≡ q → Passed bytes ⊎ Refused bytes
+    judge f raster x (refused k) e =
+        let (least, most) = judged-refused raster f k e in
+        inr (record { number = k; least = omega arith; most = most; says = file-answer bytes raster f x ∙ sym (said-refused bytes (judged f raster) k e) })
+    judge f raster x (got g rest) e = inl (record { n = _; maxval = _; raster = raster; accepted = passed-accepted bytes raster rest f g x e })
+    go : (p : Parsed Fields) → header bytes ≡ p → Passed bytes ⊎ Refused bytes
+    go (refused k) e =
+        let ten = header-10 bytes k e in
+        inr (record { number = 10; least = omega arith; most = omega arith; says = no-file-answer bytes (bad-header-exactly bytes .0 (e ∙ ap refused ten)) })
+    go (got f raster) e = judge f raster (header-is-file bytes raster f e) (judged f raster) refl

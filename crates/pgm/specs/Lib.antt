@@ -11,4 +11,5 @@ pub mod File
 pub mod Layout
 pub mod FileLaws
 pub mod Accepted
+pub mod Callers
 pub mod Steps

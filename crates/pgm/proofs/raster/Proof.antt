@@ -1,3 +1,10 @@
+use mathlib.Core.Path.{refl, sym, ap, _∙_}
+use Prim.Native.Nat.{ℕ, _+_}
+use native.Mathlib.Omega.{arith}
+use native.Mathlib.Nat.{add-sub-cancel-left}
+use lib.ListN.{take, drop}
+use Rattle.pgm.specs.Picture.{answer, stretch}
+use Rattle.pgm.specs.Callers.{stretch-inside, part-inside, part-is-stretch}
 use borrow.Author.Needs.{needs}
 use Rattle.pgm.proofs.raster.Statement.{statement}
 use Rattle.pgm.proofs.raster.Tie as tie
@@ -11,7 +18,7 @@ read-requires c κs = search needs
 
 -- src/lib.rt:93:15
 add-end : tie.Need-add-end
-add-end c = search needs
+add-end c = omega (arith, part-inside _ _ _ (c .before .read .ensures))
 
 -- src/lib.rt:94:5
 sub-result : tie.Need-sub-result
@@ -23,11 +30,18 @@ part-result-start c = search needs
 
 -- src/lib.rt:94:5
 part-result-end : tie.Need-part-result-end
-part-result-end c = search needs
+part-result-end c = part-inside _ _ _ (c .before .read .ensures)
 
 -- src/lib.rt:88:1
 returns : tie.Need-returns
-returns c = search needs
+returns c =
+    let p = c .before .before .read .result in
+    record {
+      handed =
+          ap (λ (k : ℕ). take k (drop (p .start) (c .before .before .before .before .args .bytes .now))) (add-sub-cancel-left (p .start) (p .length))
+          ∙ part-is-stretch _ _ _ (c .before .before .read .ensures);
+      unchanged = refl;
+    }
 
 pub raster-spec : {M : Type 1} → statement M
 raster-spec =

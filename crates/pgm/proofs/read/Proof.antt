@@ -1,3 +1,7 @@
+use mathlib.Core.Path.{refl, sym, ap, _∙_}
+use Rattle.pgm.specs.Picture.{answer, picture, said, judged}
+use Rattle.pgm.specs.PictureLaws.{said-refused}
+use Rattle.pgm.proofs.Sequence.{head-bad, head-on, head-inside}
 use borrow.Author.Needs.{needs}
 use Rattle.pgm.proofs.read.Statement.{statement}
 use Rattle.pgm.proofs.read.Tie as tie
@@ -25,15 +29,17 @@ enum-known-width c = search needs
 
 -- src/lib.rt:83:14
 judge-requires : tie.Need-judge-requires
-judge-requires c κs = search needs
+judge-requires c κs = head-inside (c .before .before .before .parse .ensures) (c .before .width .given .1)
 
 -- src/lib.rt:73:1
 returns : tie.Need-returns
-returns c = search needs
+unfolding answer picture
+returns c = record { answered = c .refusal .ensures ∙ said-refused _ _ 10 (head-bad (c .before .before .before .parse .ensures) (c .before .enum-told .given .1) _); unchanged = refl }
 
 -- src/lib.rt:73:1
 returns-2 : tie.Need-returns-2
-returns-2 c = search needs
+unfolding answer picture
+returns-2 c = record { answered = c .judge .ensures ∙ ap (said _) (sym (head-on (c .before .before .before .before .parse .ensures) (c .before .before .width .given .1) judged)); unchanged = refl }
 
 pub read-spec : {M : Type 1} → statement M
 read-spec =
