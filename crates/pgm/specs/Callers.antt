@@ -4,6 +4,7 @@ use mathlib.Core.Logic.{_⊎_, inl, inr, ⊎-elim}
 use mathlib.Core.List.{List, []}
 use Prim.Native.Nat.{ℕ, _+_, _-_, _^_, _≤_, _<_}
 use native.Mathlib.Omega.{arith}
+use denote.Ref.{RefT, now}
 use lib.ListN.{length, take, drop, getD, length-take, length-drop}
 use lib.Seq.{getD-take, getD-drop}
 use Rattle.sequences.specs.Powers.{square-of-side}
@@ -113,9 +114,12 @@ module _ (bytes after : List ℕ) (r : Picture) (a : Answered bytes after r) (z 
       omega (arith, e, accepted .samples i (omega (arith, long)))
 
   -- What `raster` hands back then.
-  module _ (part : List ℕ) (b : HandedBack bytes after part) where
-    pub raster-is-square : length part ≡ 4 ^ r .n
-    raster-is-square = ap length (b .handed) ∙ accepted .full ∙ square-of-side (r .n)
+  module _ (lent after′ part : RefT (List ℕ)) (same : now lent ≡ bytes) (b : HandedBack lent after′ part) where
+    handed : now part ≡ stretch bytes
+    handed = b .handed ∙ ap stretch same
 
-    pub raster-at-most-maxval : (i : ℕ) → i < length part → getD part i 0 ≤ r .maxval
-    raster-at-most-maxval = rw (b .handed) (accepted .samples)
+    pub raster-is-square : length (now part) ≡ 4 ^ r .n
+    raster-is-square = ap length handed ∙ accepted .full ∙ square-of-side (r .n)
+
+    pub raster-at-most-maxval : (i : ℕ) → i < length (now part) → getD (now part) i 0 ≤ r .maxval
+    raster-at-most-maxval = rw handed (accepted .samples)

@@ -2,7 +2,8 @@
 use mathlib.Core.Path.{_≡_}
 use mathlib.Core.Bool.{Bool, true, false, _&&_}
 use mathlib.Core.List.{List, [], _∷_}
-use Prim.Native.Nat.{ℕ, _*_, _-_}
+use Prim.Native.Nat.{ℕ, _*_, _-_, _+_}
+use denote.Ref.{RefT, ptr, now}
 use lib.Dec.{leb, eqb}
 use lib.ListN.{length, take, drop}
 use Rattle.pgm.specs.Parser.{Parsed, refused, got, Parser, next, demand, give, _>>=_, _>>_}
@@ -59,11 +60,14 @@ unfoldable pub stretch : List ℕ → List ℕ
 unfolding answer
 stretch bytes = take (answer bytes .length) (drop (answer bytes .start) bytes)
 
--- The promises of the two readers: the answer or the stretch of the bytes as they were lent, and the bytes unchanged.
+-- The promise of `read`: the answer, and the bytes unchanged.
 pub record Answered (bytes after : List ℕ) (r : Picture) : Type 0 where
   pub answered : r ≡ answer bytes
   pub unchanged : after ≡ bytes
 
-pub record HandedBack (bytes after r : List ℕ) : Type 0 where
-  pub handed : r ≡ stretch bytes
-  pub unchanged : after ≡ bytes
+-- The promise of `raster`: the stretch, as the very part of the caller's bytes that begins at `start`, and the bytes unchanged.
+pub record HandedBack (bytes after part : RefT (List ℕ)) : Type 0 where
+  pub handed : now part ≡ stretch (now bytes)
+  pub block : ptr part .0 ≡ ptr bytes .0
+  pub place : ptr part .1 ≡ ptr bytes .1 + answer (now bytes) .start
+  pub unchanged : now after ≡ now bytes

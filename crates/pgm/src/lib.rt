@@ -86,7 +86,7 @@ pub fn read(bytes: &[u8]) -> Picture
 
 // The raster of an accepted picture, as the very part of the caller's bytes; the empty part at 0 of a refused one.
 pub fn raster(bytes: &[u8]) -> &[u8]
-    ensures { λ r. ⌜ HandedBack (now (bytes .entry)) (now (bytes .exit)) (now r) ⌝ }
+    ensures { λ r. ⌜ HandedBack (bytes .entry) (bytes .exit) r ⌝ }
 {
     let p = read(bytes);
     let start = p.start;

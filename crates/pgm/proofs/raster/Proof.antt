@@ -4,6 +4,7 @@ use native.Mathlib.Omega.{arith}
 use native.Mathlib.Nat.{add-sub-cancel-left}
 use lib.ListN.{take, drop}
 use Rattle.pgm.specs.Picture.{answer, stretch}
+use Rattle.pgm.specs.declared.Picture.{Picture}
 use Rattle.pgm.specs.Callers.{stretch-inside, part-inside, part-is-stretch}
 use borrow.Author.Needs.{needs}
 use Rattle.pgm.proofs.raster.Statement.{statement}
@@ -40,6 +41,8 @@ returns c =
       handed =
           ap (λ (k : ℕ). take k (drop (p .start) (c .before .before .before .before .args .bytes .now))) (add-sub-cancel-left (p .start) (p .length))
           ∙ part-is-stretch _ _ _ (c .before .before .read .ensures);
+      block = refl;
+      place = omega (arith, ap (λ (q : Picture). q .start) (c .before .before .read .ensures .answered));
       unchanged = refl;
     }
 
