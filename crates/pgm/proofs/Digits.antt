@@ -1,7 +1,7 @@
 -- The loop over the digits of a number: what was read and what is left make the whole.
 use mathlib.Core.Path.{_≡_, refl, sym, ap, _∙_}
 use mathlib.Core.Bool.{true, false}
-use mathlib.Core.List.{List, [], _∷_}
+use mathlib.Core.List.{List, []}
 use Prim.Native.Nat.{ℕ, zero, suc, _+_, _*_, _-_, _^_, _≤_, _<_}
 use native.Mathlib.Omega.{arith}
 use lib.ListN.{length, drop, getD}
@@ -9,8 +9,8 @@ use lib.Dec.{eqb·suc-zero}
 use Rattle.pgm.specs.Parser.{bad}
 use Rattle.pgm.specs.Number.{isDigit, digits, behind, decimal, number}
 use Rattle.pgm.specs.NumberLaws.{digit-range, digit-more, number-good, number-none, number-long}
-use Rattle.pgm.specs.Steps.{Numbers, stopped, numbered, numberEnd}
-use Rattle.pgm.proofs.Places.{digits-end, behind-end, digits-more, digits-stop, behind-more, behind-stop}
+use Rattle.pgm.specs.Steps.{Numbers, stopped}
+use Rattle.pgm.proofs.Places.{digits-end, behind-end, digits-yes, digits-no, behind-yes, behind-no}
 
 -- `count` digits of the number at `from`, worth `value`, were read, and the next byte stands at `at`.
 pub record Reading (bytes : List ℕ) (from count value at : ℕ) : Type 0 where
@@ -48,7 +48,7 @@ module _ {bytes : List ℕ} {from count value at : ℕ} (r : Reading bytes from 
   module _ (h : at < length bytes) where
     -- Another byte than a digit ends the number.
     pub finish : isDigit (getD bytes at 0) ≡ false → Numbers bytes (number (drop from bytes)) (stopped count value at)
-    finish e = ended (digits-stop bytes at h e) (behind-stop bytes at h e)
+    finish e = ended (digits-no bytes at h e) (behind-no bytes at h e)
 
     pub again : isDigit (getD bytes at 0) ≡ true → (count ≡ 5 → ⊥) → Reading bytes from (count + 1) (value * 10 + (getD bytes at 0 - 48)) (at + 1)
     unfolding decimal
@@ -56,14 +56,14 @@ module _ {bytes : List ℕ} {from count value at : ℕ} (r : Reading bytes from 
       place = omega arith;
       few = omega arith;
       small = digit-more count value (getD bytes at 0) (r .small) (digit-range (getD bytes at 0) e .1);
-      counted = omega (arith, r .counted, ap length (digits-more bytes at h e));
-      valued = ap (decimal value) (sym (digits-more bytes at h e)) ∙ r .valued;
-      left = sym (behind-more bytes at h e) ∙ r .left;
+      counted = omega (arith, r .counted, ap length (digits-yes bytes at h e));
+      valued = ap (decimal value) (sym (digits-yes bytes at h e)) ∙ r .valued;
+      left = sym (behind-yes bytes at h e) ∙ r .left;
     }
 
     -- A sixth digit.
     pub sixth : isDigit (getD bytes at 0) ≡ true → count ≡ 5 → number (drop from bytes) ≡ bad
-    sixth e full = number-long (drop from bytes) (omega (arith, r .counted, ap length (digits-more bytes at h e)))
+    sixth e full = number-long (drop from bytes) (omega (arith, r .counted, ap length (digits-yes bytes at h e)))
 
   -- So does the end of the bytes.
   pub finish-end : length bytes ≤ at → Numbers bytes (number (drop from bytes)) (stopped count value at)

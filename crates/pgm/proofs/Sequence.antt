@@ -1,12 +1,12 @@
 -- One step after the other: a refused step refuses the rest, and a passed one leaves the rest to the next parser.
-use mathlib.Core.Path.{_≡_, refl, sym, ap, _∙_}
+use mathlib.Core.Path.{_≡_, sym, ap, _∙_}
 use mathlib.Core.List.{List}
 use Prim.Native.Nat.{ℕ, _≤_}
 use native.Mathlib.Omega.{arith}
 use lib.ListN.{length, drop}
-use Rattle.pgm.specs.Parser.{Parsed, refused, got, Parser, next}
+use Rattle.pgm.specs.Parser.{Parsed, refused, Parser, next}
 use Rattle.pgm.specs.Header.{Fields}
-use Rattle.pgm.specs.Steps.{past, pastEnd, numbered, numberEnd, headed, headerEnd, Passes, Numbers, Heads}
+use Rattle.pgm.specs.Steps.{past, pastEnd, numbered, headed, headerEnd, Passes, Numbers, Heads}
 use Rattle.pgm.specs.declared.step.Cursor.{Cursor}
 use Rattle.pgm.specs.declared.step.Past.{Past}
 use Rattle.pgm.specs.declared.number.Number.{Number}

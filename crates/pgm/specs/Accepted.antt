@@ -1,23 +1,22 @@
 -- Accepted pictures: what number 0 says of a file, and the other way round; and what a refusal says.
 use mathlib.Core.Path.{_≡_, refl, sym, ap, _∙_, subst⁻¹}
-use mathlib.Core.Bool.{Bool, true, false, _&&_, false≢true}
+use mathlib.Core.Bool.{Bool, true, false, false≢true, and-eq-true-iff}
 use mathlib.Core.Logic.{_⊎_, inl, inr, ⊎-elim}
-use mathlib.Core.List.{List, [], _∷_, _++_}
-use Prim.Native.Nat.{ℕ, zero, suc, _+_, _*_, _-_, _^_, _≤_, _<_}
+use mathlib.Core.List.{List, [], _∷_}
+use Prim.Native.Nat.{ℕ, zero, suc, _*_, _-_, _^_, _≤_, _<_}
 use native.Mathlib.Omega.{arith}
-use borrow.Author.Tests.{leb-true, leb-false, le-leb, eqb-true}
+use borrow.Author.Tests.{leb-true, eqb-true}
 use lib.Dec.{leb, eqb}
-use lib.ListN.{length, take, drop, getD}
+use lib.ListN.{length, take, getD}
 use lib.Seq.{take-length}
-use Rattle.sequences.specs.Powers.{square-of-side}
-use Rattle.pgm.specs.Parser.{Parsed, refused, got, Parser, next, demand}
+use Rattle.pgm.specs.Parser.{Parsed, refused, got, next, demand}
 use Rattle.pgm.specs.Header.{Fields, header}
 use Rattle.pgm.specs.Exponent.{exponent, exponent-power, exponent-of-power}
 use Rattle.pgm.specs.Picture.{square, ranged, filled, within, judged, picture, refusal, said, answer, stretch}
-use Rattle.pgm.specs.PictureLaws.{no-cause, said-refused}
+use Rattle.pgm.specs.PictureLaws.{within-more, no-cause, said-refused}
 use Rattle.pgm.specs.File.{File}
 use Rattle.pgm.specs.Layout.{not-got, next-on}
-use Rattle.pgm.specs.FileLaws.{header-is-file, file-is-header, header-10, bad-header-exactly, raster-short, raster-at-end}
+use Rattle.pgm.specs.FileLaws.{header-is-file, file-is-header, header-10, bad-header-exactly, raster-at-end}
 use Rattle.pgm.specs.declared.Picture.{Picture}
 
 -- A file of side 2^n, n from 0 to 8, with maxval from 1 to 255, a raster of exactly width times height bytes, and no sample above maxval.
@@ -30,10 +29,6 @@ pub record Accepted (bytes : List ℕ) (n maxval : ℕ) (raster : List ℕ) : Ty
   pub samples : (i : ℕ) → i < length raster → getD raster i 0 ≤ maxval
 
 -- The test of the samples says what it should of each.
-within-more : (m b : ℕ) (raster : List ℕ) → b ≤ m → within m (b ∷ raster) ≡ within m raster
-unfolding within
-within-more m b raster h = rw (le-leb b m h, within) refl
-
 within-parts : (m b : ℕ) (raster : List ℕ) → within m (b ∷ raster) ≡ true → (b ≤ m) × (within m raster ≡ true)
 unfolding within
 within-parts m b raster e = pick (leb b m) refl e
@@ -57,10 +52,6 @@ demand-passed : {A : Type 0} {a : A} {rest : List ℕ} (k : ℕ) (t : Bool) (the
 unfolding demand
 demand-passed k true then e = (refl, e)
 demand-passed k false then e = absurd (not-got e)
-
-both : (a b : Bool) → a && b ≡ true → (a ≡ true) × (b ≡ true)
-both true b e = (refl, e)
-both false b e = absurd (false≢true e)
 
 -- What a file is answered.
 pub file-answer : (bytes raster : List ℕ) (f : Fields) → File bytes f raster → answer bytes ≡ said bytes (judged f raster)
@@ -110,8 +101,8 @@ passed-accepted bytes raster rest f g x e =
     let (r, e2) = demand-passed 12 (ranged f) _ e1 in
     let (l, e3) = demand-passed 13 (filled f raster) _ e2 in
     let (w, e4) = demand-passed 14 (within (f .maxval) raster) _ e3 in
-    let (equal, power) = both (eqb (f .width) (f .height)) (leb (exponent (f .width)) 8) s in
-    let (low, high) = both (leb 1 (f .maxval)) (leb (f .maxval) 255) r in
+    let (equal, power) = and-eq-true-iff (eqb (f .width) (f .height)) (leb (exponent (f .width)) 8) .0 s in
+    let (low, high) = and-eq-true-iff (leb 1 (f .maxval)) (leb (f .maxval) 255) .0 r in
     let side : exponent (f .width) ≤ 8 = leb-true _ 8 power in
     made-accepted x (exponent-power (f .width) side) (eqb-true (f .width) (f .height) equal) side (leb-true 1 _ low) (leb-true _ 255 high)
     (eqb-true (length raster) (f .width * f .height) l) w

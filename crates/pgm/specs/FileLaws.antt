@@ -1,22 +1,22 @@
 -- The header parser accepts exactly the files of the layout; so no list is two files, and what is no file is a bad header.
 use mathlib.Core.Path.{_≡_, refl, sym, ap, _∙_, subst}
-use mathlib.Core.Bool.{Bool, true, false, _||_, true≢false}
+use mathlib.Core.Bool.{Bool, true, false, true≢false}
 use mathlib.Core.Logic.{_↔_}
 use mathlib.Core.List.{List, [], _∷_, _++_, append-assoc}
-use Prim.Native.Nat.{ℕ, _+_, _-_, _≤_}
+use Prim.Native.Nat.{ℕ, _-_, _≤_}
 use native.Mathlib.Decide.{decLe}
 use native.Mathlib.Omega.{arith}
-use borrow.Author.Tests.{eqb-true, eq-eqb, ne-eqb}
+use borrow.Author.Tests.{eqb-true, ne-eqb}
 use lib.Dec.{eqb}
 use lib.ListN.{length, drop, length-append}
 use lib.Seq.{drop-at}
-use Rattle.pgm.specs.Parser.{Parsed, refused, got, bad, Parser, next, byte}
+use Rattle.pgm.specs.Parser.{Parsed, refused, got, Parser, next, byte, byte-takes, byte-refuses}
 use Rattle.pgm.specs.Space.{isSpace, space, spaces}
 use Rattle.pgm.specs.Number.{isDigit, digits, number}
 use Rattle.pgm.specs.NumberLaws.{digit-range, number-good, number-none, number-long}
 use Rattle.pgm.specs.Header.{Fields, magic, field, header}
 use Rattle.pgm.specs.File.{Each, none, more, White, Numeral, File}
-use Rattle.pgm.specs.Layout.{Stops, ended, other, not-got, next-passed, next-on, byte-taken, byte-takes, spaces-taken, spaces-takes, number-taken, number-takes}
+use Rattle.pgm.specs.Layout.{Stops, other, not-got, next-passed, next-on, byte-taken, spaces-taken, spaces-takes, number-taken, number-takes}
 
 -- No digit is white space, so white space and numbers end each other.
 digit-not-space : (b : ℕ) → isDigit b ≡ true → isSpace b ≡ false
@@ -185,7 +185,7 @@ byte-10 test (b ∷ bytes) k e = pick (test b) refl
   where
     pick : (t : Bool) → test b ≡ t → k ≡ 10
     pick true h = never-refused (sym (byte-takes test b bytes h) ∙ e)
-    pick false h = same-number (sym (rw (h, byte) refl) ∙ e)
+    pick false h = same-number (sym (byte-refuses test b bytes h) ∙ e)
 
 next-10 : {A B : Type 0} (p : Parsed A) (then : A → Parser B) (k : ℕ) → ((j : ℕ) → p ≡ refused j → j ≡ 10) → ((a : A) → Refuses10 (then a))
     → next p then ≡ refused k → k ≡ 10

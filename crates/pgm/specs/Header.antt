@@ -1,8 +1,7 @@
 -- The header: "P5, white space, width, white space, height, white space, maxval, one white space byte" (document 01).
-use mathlib.Core.List.{List}
 use Prim.Native.Nat.{ℕ}
 use lib.Dec.{eqb}
-use Rattle.pgm.specs.Parser.{Parsed, got, Parser, byte, next, give, _>>=_, _>>_}
+use Rattle.pgm.specs.Parser.{Parser, byte, next, give, _>>=_, _>>_}
 use Rattle.pgm.specs.Space.{space, spaces}
 use Rattle.pgm.specs.Number.{number}
 

@@ -1,17 +1,15 @@
 -- What each parser takes is a part of the layout, and each such part is taken.
 use mathlib.Core.Path.{_≡_, refl, sym, ap, _∙_}
-use mathlib.Core.Bool.{Bool, true, false, _&&_, false≢true}
+use mathlib.Core.Bool.{Bool, true, false}
 use mathlib.Core.List.{List, [], _∷_, _++_}
-use Prim.Native.Nat.{ℕ, zero, suc, _≤_, _<_}
+use Prim.Native.Nat.{ℕ, _≤_}
 use native.Mathlib.Decide.{decLe}
 use native.Mathlib.Omega.{arith}
-use borrow.Author.Tests.{leb-true, eqb-true, ne-eqb, lt-leb, le-leb}
-use lib.Dec.{leb, eqb}
 use lib.ListN.{length}
-use Rattle.pgm.specs.Parser.{Parsed, refused, got, bad, Parser, next, byte}
-use Rattle.pgm.specs.Space.{isSpace, trimmed, space, spaces}
+use Rattle.pgm.specs.Parser.{Parsed, refused, got, bad, Parser, next, byte, byte-takes}
+use Rattle.pgm.specs.Space.{isSpace, trimmed, trimmed-more, trimmed-stop, space, spaces}
 use Rattle.pgm.specs.Number.{isDigit, digits, behind, decimal, number}
-use Rattle.pgm.specs.NumberLaws.{digit-range, number-good, number-none, number-long}
+use Rattle.pgm.specs.NumberLaws.{digits-more, digits-stop, behind-more, behind-stop, number-good, number-none, number-long}
 use Rattle.pgm.specs.File.{Each, none, more, White, Numeral}
 
 -- A list does not go on with a byte that passes a test.
@@ -45,19 +43,7 @@ byte-taken test (b ∷ bytes) rest e = pick (test b) refl e
     pick true h e = (b, h, cc)
     pick false h e = absurd (not-got e)
 
-pub byte-takes : (test : ℕ → Bool) (b : ℕ) (rest : List ℕ) → test b ≡ true → byte test (b ∷ rest) ≡ got tt rest
-unfolding byte
-byte-takes test b rest e = rw (e, byte) refl
-
 -- White space.
-trimmed-more : (b : ℕ) (bytes : List ℕ) → isSpace b ≡ true → trimmed (b ∷ bytes) ≡ trimmed bytes
-unfolding trimmed
-trimmed-more b bytes e = rw (e, trimmed) refl
-
-trimmed-stop : (b : ℕ) (bytes : List ℕ) → isSpace b ≡ false → trimmed (b ∷ bytes) ≡ b ∷ bytes
-unfolding trimmed
-trimmed-stop b bytes e = rw (e, trimmed) refl
-
 trimmed-split : (bytes : List ℕ) → (s : List ℕ) × Each isSpace s × (bytes ≡ s ++ trimmed bytes)
 unfolding trimmed
 trimmed-split [] = ([], none, refl)
@@ -93,22 +79,6 @@ pub spaces-takes : (s rest : List ℕ) → White s → Stops isSpace rest → sp
 spaces-takes s rest w stop = spaces-each rest (w .each) (w .some) stop
 
 -- Numbers.
-digits-more : (b : ℕ) (bytes : List ℕ) → isDigit b ≡ true → digits (b ∷ bytes) ≡ b ∷ digits bytes
-unfolding digits
-digits-more b bytes e = rw (e, digits) refl
-
-digits-stop : (b : ℕ) (bytes : List ℕ) → isDigit b ≡ false → digits (b ∷ bytes) ≡ []
-unfolding digits
-digits-stop b bytes e = rw (e, digits) refl
-
-behind-more : (b : ℕ) (bytes : List ℕ) → isDigit b ≡ true → behind (b ∷ bytes) ≡ behind bytes
-unfolding behind
-behind-more b bytes e = rw (e, behind) refl
-
-behind-stop : (b : ℕ) (bytes : List ℕ) → isDigit b ≡ false → behind (b ∷ bytes) ≡ b ∷ bytes
-unfolding behind
-behind-stop b bytes e = rw (e, behind) refl
-
 digits-split : (bytes : List ℕ) → Each isDigit (digits bytes) × (bytes ≡ digits bytes ++ behind bytes)
 unfolding digits behind
 digits-split [] = (none, refl)

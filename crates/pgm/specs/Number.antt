@@ -4,7 +4,7 @@ use mathlib.Core.List.{List, [], _∷_}
 use Prim.Native.Nat.{ℕ, _+_, _*_, _-_}
 use lib.Dec.{leb}
 use lib.ListN.{length}
-use Rattle.pgm.specs.Parser.{Parsed, got, bad, Parser}
+use Rattle.pgm.specs.Parser.{got, bad, Parser}
 
 -- The bytes of 0 to 9.
 unfoldable pub isDigit : ℕ → Bool

@@ -1,27 +1,40 @@
 -- Laws of digits and numbers: what a digit is worth, and when a number is refused.
-use mathlib.Core.Path.{_≡_, refl, sym, ap, _∙_}
-use mathlib.Core.Bool.{Bool, true, false, _&&_}
+use mathlib.Core.Path.{_≡_, refl}
+use mathlib.Core.Bool.{true, false, and-eq-true-iff}
 use mathlib.Core.List.{List, [], _∷_}
-use Prim.Native.Nat.{ℕ, zero, suc, _+_, _*_, _-_, _^_, _≤_, _<_}
+use Prim.Native.Nat.{ℕ, _+_, _*_, _-_, _^_, _≤_, _<_}
 use native.Mathlib.Nat.{pow-suc, pow-le-pow-right}
 use native.Mathlib.Numerals.{add-one}
 use native.Mathlib.Omega.{arith}
 use borrow.Author.Tests.{le-leb, lt-leb, leb-true}
 use lib.Dec.{leb}
 use lib.ListN.{length}
-use Rattle.pgm.specs.Parser.{Parsed, got, bad}
+use Rattle.pgm.specs.Parser.{got, bad}
 use Rattle.pgm.specs.Number.{isDigit, digits, behind, decimal, number}
-
-both : (a b : Bool) → a && b ≡ true → (a ≡ true) × (b ≡ true)
-both true b e = (refl, e)
-both false b e = let z : _≡_ {A = ℕ} 0 1 = cc in absurd (omega arith)
 
 -- A digit is a byte from 48 to 57.
 pub digit-range : (b : ℕ) → isDigit b ≡ true → (48 ≤ b) × (b ≤ 57)
 unfolding isDigit
 digit-range b e =
-    let p = both (leb 48 b) (leb b 57) e in
+    let p = and-eq-true-iff (leb 48 b) (leb b 57) .0 e in
     (leb-true 48 b (p .0), leb-true b 57 (p .1))
+
+-- A digit belongs to the number, and any other byte ends it.
+pub digits-more : (b : ℕ) (bytes : List ℕ) → isDigit b ≡ true → digits (b ∷ bytes) ≡ b ∷ digits bytes
+unfolding digits
+digits-more b bytes e = rw (e, digits) refl
+
+pub digits-stop : (b : ℕ) (bytes : List ℕ) → isDigit b ≡ false → digits (b ∷ bytes) ≡ []
+unfolding digits
+digits-stop b bytes e = rw (e, digits) refl
+
+pub behind-more : (b : ℕ) (bytes : List ℕ) → isDigit b ≡ true → behind (b ∷ bytes) ≡ behind bytes
+unfolding behind
+behind-more b bytes e = rw (e, behind) refl
+
+pub behind-stop : (b : ℕ) (bytes : List ℕ) → isDigit b ≡ false → behind (b ∷ bytes) ≡ b ∷ bytes
+unfolding behind
+behind-stop b bytes e = rw (e, behind) refl
 
 -- One more digit makes a number of k digits one of k + 1.
 pub digit-more : (k value b : ℕ) → value < 10 ^ k → b ≤ 57 → value * 10 + (b - 48) < 10 ^ (k + 1)

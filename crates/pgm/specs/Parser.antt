@@ -1,8 +1,8 @@
 -- Parsers of a byte list: each takes its part from the front, or refuses with a number of document 01's table.
+use mathlib.Core.Path.{_≡_, refl}
 use mathlib.Core.Bool.{Bool, true, false}
 use mathlib.Core.List.{List, [], _∷_}
 use Prim.Native.Nat.{ℕ}
-use lib.Dec.{eqb}
 
 -- What a parser finds: a value and the bytes after it, or the number of the cause that refuses the list.
 pub data Parsed (A : Type 0) : Type 0 where
@@ -35,6 +35,14 @@ give value = λ bytes. got value bytes
 unfoldable pub byte : (ℕ → Bool) → Parser (Unit {0})
 byte test [] = bad
 byte test (b ∷ bytes) = elim (test b) [ true ↦ got tt bytes | false ↦ bad ]
+
+pub byte-takes : (test : ℕ → Bool) (b : ℕ) (rest : List ℕ) → test b ≡ true → byte test (b ∷ rest) ≡ got tt rest
+unfolding byte
+byte-takes test b rest e = rw (e, byte) refl
+
+pub byte-refuses : (test : ℕ → Bool) (b : ℕ) (rest : List ℕ) → test b ≡ false → byte test (b ∷ rest) ≡ bad
+unfolding byte
+byte-refuses test b rest e = rw (e, byte) refl
 
 -- What follows where a test passes, and a refusal with a number where it fails.
 unfoldable pub demand : {A : Type 0} → ℕ → Bool → Parsed A → Parsed A

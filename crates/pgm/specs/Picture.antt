@@ -6,7 +6,7 @@ use Prim.Native.Nat.{ℕ, _*_, _-_, _+_}
 use denote.Ref.{RefT, ptr, now}
 use lib.Dec.{leb, eqb}
 use lib.ListN.{length, take, drop}
-use Rattle.pgm.specs.Parser.{Parsed, refused, got, Parser, next, demand, give, _>>=_, _>>_}
+use Rattle.pgm.specs.Parser.{Parsed, refused, got, Parser, next, demand, _>>=_}
 use Rattle.pgm.specs.Header.{Fields, header}
 use Rattle.pgm.specs.Exponent.{exponent}
 use Rattle.pgm.specs.declared.Picture.{Picture}

@@ -1,22 +1,26 @@
 -- Laws of the causes 11 to 14: what each test says of the fields and the raster.
-use mathlib.Core.Path.{_≡_, refl, sym, ap, _∙_}
-use mathlib.Core.Bool.{Bool, true, false, _&&_, false≢true}
-use mathlib.Core.List.{List, [], _∷_}
-use Prim.Native.Nat.{ℕ, _+_, _*_, _-_, _^_, _≤_, _<_}
+use mathlib.Core.Path.{_≡_, refl, sym, ap}
+use mathlib.Core.Bool.{true, false}
+use mathlib.Core.List.{List, _∷_}
+use Prim.Native.Nat.{ℕ, _*_, _-_, _^_, _≤_, _<_}
 use native.Mathlib.Omega.{arith}
 use borrow.Author.Tests.{le-leb, lt-leb, eq-eqb, ne-eqb}
-use lib.Dec.{leb, eqb}
 use lib.ListN.{length, drop, length-drop}
 use Rattle.sequences.specs.Powers.{pow2-mono}
-use Rattle.pgm.specs.Parser.{Parsed, refused, got, demand}
+use Rattle.pgm.specs.Parser.{Parsed, refused, got}
 use Rattle.pgm.specs.Header.{Fields}
 use Rattle.pgm.specs.Exponent.{exponent, exponent-power}
 use Rattle.pgm.specs.Picture.{square, ranged, filled, within, judged, refusal, said}
 use Rattle.pgm.specs.declared.Picture.{Picture}
 
-both : (a b : Bool) → a && b ≡ true → (a ≡ true) × (b ≡ true)
-both true b e = (refl, e)
-both false b e = absurd (false≢true e)
+-- A sample at most maxval passes, and one above it fails.
+pub within-more : (m b : ℕ) (raster : List ℕ) → b ≤ m → within m (b ∷ raster) ≡ within m raster
+unfolding within
+within-more m b raster h = rw (le-leb b m h, within) refl
+
+pub within-stop : (m b : ℕ) (raster : List ℕ) → m < b → within m (b ∷ raster) ≡ false
+unfolding within
+within-stop m b raster h = rw (lt-leb b m h, within) refl
 
 module _ (f : Fields) where
   square-met : f .width ≡ f .height → exponent (f .width) ≤ 8 → square f ≡ true

@@ -1,7 +1,6 @@
 // The side of a picture and its samples.
 ghost use mathlib.Core.Path.{_≡_};
-ghost use Prim.Native.Nat.{_≤_};
-ghost use lib.ListN.{length, drop};
+ghost use lib.ListN.{drop};
 ghost use Rattle.pgm.specs.Exponent.{exponent};
 ghost use Rattle.pgm.specs.Picture.{within};
 

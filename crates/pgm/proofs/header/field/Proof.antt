@@ -1,37 +1,28 @@
-use mathlib.Core.Path.{sym, _∙_}
+-- White space, then a number, whose place lies inside the bytes.
+use mathlib.Core.Path.{sym}
 use native.Mathlib.Omega.{arith}
 use Rattle.pgm.specs.Header.{field}
 use Rattle.pgm.proofs.Sequence.{past-bad, past-on, past-inside}
 use borrow.Author.Needs.{needs}
 use Rattle.pgm.proofs.header.field.Statement.{statement}
 use Rattle.pgm.proofs.header.field.Tie as tie
-use Rattle.pgm.proofs.header.field.Reads as reads
-use Rattle.pgm.proofs.header.field.Lts as lts
-use Rattle.pgm.proofs.number.parse.Reads as parse-reads
-use Rattle.pgm.proofs.space.spaces.Reads as spaces-reads
 
--- src/header.rt:38:26
 spaces-requires : tie.Need-spaces-requires
 spaces-requires c κs = search needs
 
--- src/header.rt:38:18
 enum-known-next : tie.Need-enum-known-next
 enum-known-next c = search needs
 
--- src/header.rt:39:9
 enum-told : tie.Need-enum-told
 enum-told c = search needs
 
--- src/header.rt:39:9
 returns : tie.Need-returns
 unfolding field
 returns c = record { says = sym (past-bad (c .before .before .spaces .ensures) (c .enum-told .given .1) _); inside = omega arith }
 
--- src/header.rt:41:5
 parse-requires : tie.Need-parse-requires
 parse-requires c κs = past-inside (c .before .before .before .spaces .ensures) (c .before .next .given .1)
 
--- src/header.rt:35:1
 returns-2 : tie.Need-returns-2
 unfolding field
 returns-2 c = rw (past-on (c .before .before .before .before .spaces .ensures) (c .before .before .next .given .1)) (c .parse .ensures)

@@ -1,3 +1,4 @@
+-- The steps of the definition, one after the other: those passed leave the rest to the next, and the first refused one refuses it all.
 use mathlib.Core.Path.{sym, _∙_}
 use native.Mathlib.Omega.{arith}
 use Rattle.pgm.specs.Header.{header}
@@ -5,42 +6,29 @@ use Rattle.pgm.proofs.Sequence.{past-bad, past-on, past-inside, number-
 use borrow.Author.Needs.{needs}
 use Rattle.pgm.proofs.header.parse.Statement.{statement}
 use Rattle.pgm.proofs.header.parse.Tie as tie
-use Rattle.pgm.proofs.header.parse.Reads as reads
-use Rattle.pgm.proofs.header.parse.Lts as lts
-use Rattle.pgm.proofs.header.field.Reads as field-reads
-use Rattle.pgm.proofs.header.magic.Reads as magic-reads
-use Rattle.pgm.proofs.space.space.Reads as space-reads
 
--- src/header.rt:48:23
 magic-requires : tie.Need-magic-requires
 magic-requires c κs = search needs
 
--- src/header.rt:48:18
 enum-known-c : tie.Need-enum-known-c
 enum-known-c c = search needs
 
--- src/header.rt:49:9
 enum-told : tie.Need-enum-told
 enum-told c = search needs
 
--- src/header.rt:49:9
 returns : tie.Need-returns
 unfolding header
 returns c = record { says = sym (past-bad (c .before .before .magic .ensures) (c .enum-told .given .1) _); inside = omega arith }
 
--- src/header.rt:51:35
 field-requires : tie.Need-field-requires
 field-requires c κs = search needs
 
--- src/header.rt:51:23
 enum-known-width : tie.Need-enum-known-width
 enum-known-width c = search needs
 
--- src/header.rt:52:9
 enum-told-2 : tie.Need-enum-told-2
 enum-told-2 c = search needs
 
--- src/header.rt:52:9
 returns-2 : tie.Need-returns-2
 unfolding header
 returns-2 c =
@@ -49,19 +37,15 @@ returns-2 c =
       inside = omega arith;
     }
 
--- src/header.rt:54:36
 field-requires-2 : tie.Need-field-requires-2
 field-requires-2 c κs = search needs
 
--- src/header.rt:54:23
 enum-known-height : tie.Need-enum-known-height
 enum-known-height c = search needs
 
--- src/header.rt:55:9
 enum-told-3 : tie.Need-enum-told-3
 enum-told-3 c = search needs
 
--- src/header.rt:55:9
 returns-3 : tie.Need-returns-3
 unfolding header
 returns-3 c =
@@ -74,19 +58,15 @@ returns-3 c =
       inside = omega arith;
     }
 
--- src/header.rt:57:36
 field-requires-3 : tie.Need-field-requires-3
 field-requires-3 c κs = search needs
 
--- src/header.rt:57:23
 enum-known-maxval : tie.Need-enum-known-maxval
 enum-known-maxval c = search needs
 
--- src/header.rt:58:9
 enum-told-4 : tie.Need-enum-told-4
 enum-told-4 c = search needs
 
--- src/header.rt:58:9
 returns-4 : tie.Need-returns-4
 unfolding header
 returns-4 c =
@@ -100,19 +80,15 @@ returns-4 c =
       inside = omega arith;
     }
 
--- src/header.rt:60:28
 space-requires : tie.Need-space-requires
 space-requires c κs = search needs
 
--- src/header.rt:60:18
 enum-known-raster : tie.Need-enum-known-raster
 enum-known-raster c = search needs
 
--- src/header.rt:61:9
 enum-told-5 : tie.Need-enum-told-5
 enum-told-5 c = search needs
 
--- src/header.rt:61:9
 returns-5 : tie.Need-returns-5
 unfolding header
 returns-5 c =
@@ -127,7 +103,6 @@ returns-5 c =
       inside = omega arith;
     }
 
--- src/header.rt:45:1
 returns-6 : tie.Need-returns-6
 unfolding header
 returns-6 c =

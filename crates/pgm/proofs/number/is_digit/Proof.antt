@@ -1,18 +1,14 @@
+-- The two bounds of the definition, the lower first.
 use mathlib.Core.Path.{refl}
 use borrow.Author.Tests.{le-leb, lt-leb}
 use Rattle.pgm.specs.Number.{isDigit}
-use borrow.Author.Needs.{needs}
 use Rattle.pgm.proofs.number.is_digit.Statement.{statement}
 use Rattle.pgm.proofs.number.is_digit.Tie as tie
-use Rattle.pgm.proofs.number.is_digit.Reads as reads
-use Rattle.pgm.proofs.number.is_digit.Lts as lts
 
--- src/number.rt:20:9
 returns : tie.Need-returns
 unfolding isDigit
 returns c = simp (lt-leb _ _ (c .if1 .taken)) refl
 
--- src/number.rt:16:1
 returns-2 : tie.Need-returns-2
 unfolding isDigit
 returns-2 c = simp (le-leb _ _ (c .if1 .left)) refl

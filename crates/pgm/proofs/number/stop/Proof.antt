@@ -1,16 +1,12 @@
+-- A number with no digit is refused.
 use mathlib.Core.Path.{refl}
 use borrow.Author.Tests.{eq-eqb, ne-eqb}
-use borrow.Author.Needs.{needs}
 use Rattle.pgm.proofs.number.stop.Statement.{statement}
 use Rattle.pgm.proofs.number.stop.Tie as tie
-use Rattle.pgm.proofs.number.stop.Reads as reads
-use Rattle.pgm.proofs.number.stop.Lts as lts
 
--- src/number.rt:30:9
 returns : tie.Need-returns
 returns c = simp (eq-eqb _ _ (c .if1 .taken)) refl
 
--- src/number.rt:26:1
 returns-2 : tie.Need-returns-2
 returns-2 c = simp (ne-eqb _ _ (c .if1 .left)) refl
 

@@ -1,15 +1,13 @@
+-- The invariant: the samples left decide what all of them do. The measure: the bytes left.
 use Rattle.pgm.specs.Picture.{within}
-use Rattle.pgm.proofs.Places.{within-end, within-more, within-stop}
-use mathlib.Core.Path.{_≡_, refl, sym, ap, _∙_}
-use mathlib.Core.Logic.{⊎-elim}
-use Prim.Native.Nat.{ℕ, _≤_, _<_, _-_, _+_}
+use Rattle.pgm.proofs.Places.{within-end, within-yes, within-no}
+use mathlib.Core.Path.{_≡_, refl, sym, _∙_}
+use Prim.Native.Nat.{_-_}
 use native.Mathlib.Omega.{arith}
-use lib.ListN.{length, take, drop, getD, set}
+use lib.ListN.{length, drop}
 use borrow.Author.Needs.{needs}
 use Rattle.pgm.proofs.samples.within.Statement.{statement}
 use Rattle.pgm.proofs.samples.within.Tie as tie
-use Rattle.pgm.proofs.samples.within.Reads as reads
-use Rattle.pgm.proofs.samples.within.Lts as lts
 
 abbrev Inv-loop : tie.InvT-loop
 Inv-loop bytes start maxval at₀ at = within maxval (drop at bytes) ≡ within maxval (drop start bytes)
@@ -17,37 +15,29 @@ Inv-loop bytes start maxval at₀ at = within maxval (drop at bytes) ≡ within 
 abbrev μ-loop : tie.MeasureT-loop
 μ-loop bytes start maxval at₀ at = length bytes - at
 
--- src/samples.rt:28:5
 loop-holds : tie.Need-loop-holds Inv-loop μ-loop
 loop-holds c = refl
 
--- src/samples.rt:29:22
 shared-slice-read-if1 : tie.Need-shared-slice-read-if1 Inv-loop μ-loop
 shared-slice-read-if1 c = search needs
 
--- src/samples.rt:29:22
 cast-if1 : tie.Need-cast-if1 Inv-loop μ-loop
 cast-if1 c = omega (arith, c .shared-slice-known .given (c .before .before .loop .at))
 
--- src/samples.rt:30:13
 returns : tie.Need-returns Inv-loop μ-loop
-returns c = sym (within-stop _ _ (c .before .before .loop-test .taken) _ (c .if1 .taken)) ∙ c .before .before .before .loop .inv
+returns c = sym (within-no _ _ (c .before .before .loop-test .taken) _ (c .if1 .taken)) ∙ c .before .before .before .loop .inv
 
--- src/samples.rt:32:9
 add-at : tie.Need-add-at Inv-loop μ-loop
 add-at c = search needs
 
--- src/samples.rt:28:5
 loop-less : tie.Need-loop-less Inv-loop μ-loop
 loop-less c = search needs
 
--- src/samples.rt:28:5
 loop-again : tie.Need-loop-again Inv-loop μ-loop
-loop-again c = sym (within-more _ _ (c .before .before .loop-test .taken) _ (c .if1 .left)) ∙ c .before .before .before .loop .inv
+loop-again c = sym (within-yes _ _ (c .before .before .loop-test .taken) _ (c .if1 .left)) ∙ c .before .before .before .loop .inv
 
--- src/samples.rt:24:1
 returns-2 : tie.Need-returns-2 Inv-loop μ-loop
-returns-2 c = sym (within-end _ _ _ (c .loop-test .left)) ∙ c .before .loop .inv
+returns-2 c = sym (within-end _ _ (c .loop-test .left) _) ∙ c .before .loop .inv
 
 pub within-spec : {M : Type 1} → statement M
 within-spec =

@@ -1,4 +1,5 @@
-use mathlib.Core.Path.{_≡_, refl, sym, ap, _∙_}
+-- One white space byte, then those that follow it, as the definition has them.
+use mathlib.Core.Path.{sym, ap, _∙_}
 use native.Mathlib.Omega.{arith}
 use Rattle.pgm.specs.Parser.{got}
 use Rattle.pgm.specs.Space.{spaces}
@@ -6,33 +7,23 @@ use Rattle.pgm.proofs.Sequence.{past-bad, past-on, past-inside}
 use borrow.Author.Needs.{needs}
 use Rattle.pgm.proofs.space.spaces.Statement.{statement}
 use Rattle.pgm.proofs.space.spaces.Tie as tie
-use Rattle.pgm.proofs.space.spaces.Reads as reads
-use Rattle.pgm.proofs.space.spaces.Lts as lts
-use Rattle.pgm.proofs.space.space.Reads as space-reads
-use Rattle.pgm.proofs.space.trim.Reads as trim-reads
 
--- src/header.rt:116:26
 space-requires : tie.Need-space-requires
 space-requires c κs = search needs
 
--- src/header.rt:116:18
 enum-known-next : tie.Need-enum-known-next
 enum-known-next c = search needs
 
--- src/header.rt:117:9
 enum-told : tie.Need-enum-told
 enum-told c = search needs
 
--- src/header.rt:117:9
 returns : tie.Need-returns
 unfolding spaces
 returns c = record { says = sym (past-bad (c .before .before .space .ensures) (c .enum-told .given .1) _); inside = omega arith }
 
--- src/header.rt:121:13
 trim-requires : tie.Need-trim-requires
 trim-requires c κs = past-inside (c .before .before .before .space .ensures) (c .before .next .given .1)
 
--- src/header.rt:113:1
 returns-2 : tie.Need-returns-2
 unfolding spaces
 returns-2 c = record { says = ap (got tt) (c .trim .ensures .0) ∙ sym (past-on (c .before .before .before .before .space .ensures) (c .before .before .next .given .1) _); inside = c .trim .ensures .1 }

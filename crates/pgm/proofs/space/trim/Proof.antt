@@ -1,17 +1,14 @@
+-- The invariant: what is trimmed at the present place is what is trimmed at the first. The measure: the bytes left.
 use borrow.Author.Tests.{not-true, not-false}
 use Rattle.pgm.specs.Space.{trimmed}
-use Rattle.pgm.proofs.Places.{trimmed-end, trimmed-more, trimmed-stop}
-use mathlib.Core.Path.{_≡_, refl, sym, ap, _∙_}
-use mathlib.Core.Logic.{⊎-elim}
-use Prim.Native.Nat.{ℕ, _≤_, _<_, _-_, _+_}
+use Rattle.pgm.proofs.Places.{trimmed-end, trimmed-yes, trimmed-no}
+use mathlib.Core.Path.{_≡_, refl, sym, _∙_}
+use Prim.Native.Nat.{_≤_, _-_}
 use native.Mathlib.Omega.{arith}
-use lib.ListN.{length, take, drop, getD, set}
+use lib.ListN.{length, drop}
 use borrow.Author.Needs.{needs}
 use Rattle.pgm.proofs.space.trim.Statement.{statement}
 use Rattle.pgm.proofs.space.trim.Tie as tie
-use Rattle.pgm.proofs.space.trim.Reads as reads
-use Rattle.pgm.proofs.space.trim.Lts as lts
-use Rattle.pgm.proofs.space.is_space.Reads as is-space-reads
 
 abbrev Inv-loop : tie.InvT-loop
 Inv-loop bytes from at₀ at = (at ≤ length bytes) × (trimmed (drop at bytes) ≡ trimmed (drop from bytes))
@@ -19,41 +16,33 @@ Inv-loop bytes from at₀ at = (at ≤ length bytes) × (trimmed (drop at bytes)
 abbrev μ-loop : tie.MeasureT-loop
 μ-loop bytes from at₀ at = length bytes - at
 
--- src/header.rt:93:5
 loop-holds : tie.Need-loop-holds Inv-loop μ-loop
 loop-holds c = (c .before .pre, refl)
 
--- src/header.rt:94:30
 shared-slice-read-is-space : tie.Need-shared-slice-read-is-space Inv-loop μ-loop
 shared-slice-read-is-space c = search needs
 
--- src/header.rt:94:13
 is-space-requires : tie.Need-is-space-requires Inv-loop μ-loop
 is-space-requires c κs = search needs
 
--- src/header.rt:96:13
 returns : tie.Need-returns Inv-loop μ-loop
 returns c =
     let l = c .before .before .before .before .loop in
     let e = c .before .is-space .ensures in
-    (sym (trimmed-stop _ _ (c .before .before .before .loop-test .taken) (sym e ∙ not-true _ (c .if1 .taken))) ∙ l .inv .1, l .inv .0)
+    (sym (trimmed-no _ _ (c .before .before .before .loop-test .taken) (sym e ∙ not-true _ (c .if1 .taken))) ∙ l .inv .1, l .inv .0)
 
--- src/header.rt:98:9
 add-at : tie.Need-add-at Inv-loop μ-loop
 add-at c = search needs
 
--- src/header.rt:93:5
 loop-less : tie.Need-loop-less Inv-loop μ-loop
 loop-less c = search needs
 
--- src/header.rt:93:5
 loop-again : tie.Need-loop-again Inv-loop μ-loop
 loop-again c =
     let l = c .before .before .before .before .loop in
     let e = c .before .is-space .ensures in
-    (omega arith, sym (trimmed-more _ _ (c .before .before .before .loop-test .taken) (sym e ∙ not-false _ (c .if1 .left))) ∙ l .inv .1)
+    (omega arith, sym (trimmed-yes _ _ (c .before .before .before .loop-test .taken) (sym e ∙ not-false _ (c .if1 .left))) ∙ l .inv .1)
 
--- src/header.rt:88:1
 returns-2 : tie.Need-returns-2 Inv-loop μ-loop
 returns-2 c = (sym (trimmed-end _ _ (c .loop-test .left)) ∙ c .before .loop .inv .1, c .before .loop .inv .0)
 

@@ -1,3 +1,4 @@
+-- Where the bytes end there is none to take; else the byte at the place is the wanted one or not.
 use native.Mathlib.Omega.{arith}
 use borrow.Author.Tests.{eq-eqb, ne-eqb}
 use Rattle.pgm.proofs.Places.{byte-end, byte-yes, byte-no}
@@ -5,26 +6,19 @@ use mathlib.Core.Path.{sym}
 use borrow.Author.Needs.{needs}
 use Rattle.pgm.proofs.step.exact.Statement.{statement}
 use Rattle.pgm.proofs.step.exact.Tie as tie
-use Rattle.pgm.proofs.step.exact.Reads as reads
-use Rattle.pgm.proofs.step.exact.Lts as lts
 
--- src/header.rt:46:9
 returns : tie.Need-returns
-returns c = record { says = sym (byte-end _ _ _ (c .if1 .taken)); inside = omega arith }
+returns c = record { says = sym (byte-end _ _ (c .if1 .taken) _); inside = omega arith }
 
--- src/header.rt:48:8
 shared-slice-read-if2 : tie.Need-shared-slice-read-if2
 shared-slice-read-if2 c = search needs
 
--- src/header.rt:49:31
 add-t10 : tie.Need-add-t10
 add-t10 c = search needs
 
--- src/header.rt:41:1
 returns-2 : tie.Need-returns-2
 returns-2 c = record { says = sym (byte-yes _ _ (c .before .before .if1 .left) _ (eq-eqb _ _ (c .if2 .taken))); inside = omega arith }
 
--- src/header.rt:41:1
 returns-3 : tie.Need-returns-3
 returns-3 c = record { says = sym (byte-no _ _ (c .before .before .if1 .left) _ (ne-eqb _ _ (c .if2 .left))); inside = omega arith }
 
