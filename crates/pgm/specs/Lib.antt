@@ -12,4 +12,5 @@ pub mod Layout
 pub mod FileLaws
 pub mod Accepted
 pub mod Callers
+pub mod Examples
 pub mod Steps
