@@ -1,6 +1,7 @@
-/* The functions of libexports.a. A lent list passes as a pointer and its length in entries. Each function answers document
-   01's numbers for bad input of any kind, touches nothing outside the lists that it is lent, and comes to its end. A refusal
-   is its number with every count 0, and leaves all lists as they were; acceptance is number 0. */
+/* The functions of libexports.a. A lent list passes as a pointer, which is not null, and its length in entries; a list that is
+   written to overlaps no other list of the call. Each function answers document 01's numbers for bad input of any kind, touches
+   nothing outside the lists that it is lent, and comes to its end. A refusal is its number with every count 0, and leaves all
+   lists as they were; acceptance is number 0. */
 #ifndef NETTLESTAIR_H
 #define NETTLESTAIR_H
 

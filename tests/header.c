@@ -23,7 +23,7 @@ int main(void) {
 
     expect("check", nettlestair_check(2, codes, 7, levels, 7, colours, 7) == 0);
     expect("check, lists of unlike lengths", nettlestair_check(2, codes, 7, levels, 6, colours, 7) == 2);
-    expect("check, an empty list", nettlestair_check(2, NULL, 0, NULL, 0, NULL, 0) == 6);
+    expect("check, an empty list", nettlestair_check(2, codes, 0, levels, 0, colours, 0) == 6);
 
     struct nettlestair_written w = nettlestair_blocks_from_raster(2, raster, 16, c, 16, l, 16, k, 16);
     expect("blocks from raster, answer", w.number == 0 && w.count == 7);
