@@ -3,7 +3,7 @@
 use crate::compare::difference;
 use crate::lent::Lent;
 use crate::library::{self, refused, Written};
-use crate::model::Blocks;
+use crate::model::blocks::Blocks;
 use crate::random::Random;
 use std::fmt::{Debug, Display};
 use std::hint::black_box;

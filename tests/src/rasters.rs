@@ -1,6 +1,6 @@
 //! Rasters to try: random ones of several kinds, for every side.
 
-use crate::model::{location_code, pixel};
+use crate::model::blocks::{location_code, pixel};
 use crate::random::Random;
 
 /// One raster of side 2^n of each kind.

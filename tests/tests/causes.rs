@@ -4,7 +4,7 @@ use std::collections::BTreeSet;
 use tests::calls::{agrees, RasterOut};
 use tests::cases::Cases;
 use tests::library::check;
-use tests::model::{conditions, number, paint, quadtree, Blocks};
+use tests::model::blocks::{conditions, number, paint, quadtree, Blocks};
 use tests::random::Random;
 use tests::rasters;
 

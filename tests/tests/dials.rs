@@ -3,7 +3,7 @@
 use tests::calls::{agrees, RasterOut};
 use tests::cases::Cases;
 use tests::library::check;
-use tests::model::{number, paint, Blocks};
+use tests::model::blocks::{number, paint, Blocks};
 use tests::random::Random;
 
 /// The lists of dials 6 to 12 with the number that the document gives, and those of dials 1 to 5, which are accepted.

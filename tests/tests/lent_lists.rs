@@ -3,7 +3,7 @@
 use tests::calls::{agrees, BlocksOut, RasterOut};
 use tests::cases::Cases;
 use tests::lent::{Entry, Lent};
-use tests::model::quadtree;
+use tests::model::blocks::quadtree;
 use tests::random::Random;
 use tests::rasters;
 

@@ -4,7 +4,7 @@ use tests::calls::{agrees, BlocksOut, RasterOut};
 use tests::cases::Cases;
 use tests::compare::Shown;
 use tests::library::check;
-use tests::model::{number, paint, quadtree};
+use tests::model::blocks::{number, paint, quadtree};
 use tests::random::Random;
 use tests::rasters;
 

@@ -1,5 +1,4 @@
-//! Document 01's block lists once more, written from its words and apart from the proved code: squares by coordinates, from
-//! the top down, and a list judged by the set of pixels that it covers.
+//! Block lists and rasters: squares by coordinates, from the top down, and a list judged by the set of pixels that it covers.
 
 use crate::compare::Shown;
 use std::collections::HashMap;
