@@ -1,7 +1,7 @@
 //! Calls of the library with lent lists full of garbage, and what the lists must hold afterwards.
 
 use crate::compare::difference;
-use crate::lent::Lent;
+use crate::lent::{Entry, Lent};
 use crate::library::{self, refused, Written};
 use crate::model::blocks::Blocks;
 use crate::random::Random;
@@ -46,27 +46,22 @@ impl BlocksOut {
     }
 }
 
-/// Blocks to raster, after a call.
-pub struct RasterOut {
+/// A function that writes one list, after a call.
+pub struct Out<T> {
     pub written: Written,
-    pub raster: Lent<u8>,
+    pub list: Lent<T>,
 }
 
-impl RasterOut {
-    /// Lends a raster of the given length.
-    pub fn call(random: &mut Random, n: u32, blocks: &Blocks, length: usize) -> RasterOut {
-        let before = blocks.clone();
-        let mut raster = Lent::new(random, length);
-        let Blocks { codes, levels, colours } = black_box(blocks);
-        let written = library::raster_from_blocks(n, codes, levels, colours, raster.lend());
-        unchanged("codes", &before.codes, black_box(codes));
-        unchanged("levels", &before.levels, black_box(levels));
-        unchanged("colours", &before.colours, black_box(colours));
-        RasterOut { written, raster }
+impl<T: Entry> Out<T> {
+    /// Lends a list of the given length to `function`.
+    pub fn of(random: &mut Random, length: usize, function: impl FnOnce(&mut [T]) -> Written) -> Out<T> {
+        let mut list = Lent::new(random, length);
+        let written = function(list.lend());
+        Out { written, list }
     }
 
     /// What differs from an acceptance with these entries.
-    pub fn difference(&self, entries: &[u8]) -> Option<String> {
+    pub fn difference(&self, entries: &[T]) -> Option<String> {
         self.differs(Written { number: 0, count: entries.len() as u32 }, entries)
     }
 
@@ -75,9 +70,20 @@ impl RasterOut {
         self.differs(refused(number), &[])
     }
 
-    fn differs(&self, written: Written, entries: &[u8]) -> Option<String> {
-        answer(written, self.written).or_else(|| self.raster.difference(entries).map(|d| format!("raster, {d}")))
+    fn differs(&self, written: Written, entries: &[T]) -> Option<String> {
+        answer(written, self.written).or_else(|| self.list.difference(entries).map(|d| d.to_string()))
     }
+}
+
+/// Blocks to raster, with a raster of the given length.
+pub fn raster_from_blocks(random: &mut Random, n: u32, blocks: &Blocks, length: usize) -> Out<u8> {
+    let before = blocks.clone();
+    let Blocks { codes, levels, colours } = black_box(blocks);
+    let out = Out::of(random, length, |raster| library::raster_from_blocks(n, codes, levels, colours, raster));
+    unchanged("codes", &before.codes, black_box(codes));
+    unchanged("levels", &before.levels, black_box(levels));
+    unchanged("colours", &before.colours, black_box(colours));
+    out
 }
 
 /// Fails where there is a difference.

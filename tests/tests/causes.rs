@@ -1,7 +1,7 @@
 //! Causes 1 to 8 of block lists: each alone, each pair that can occur together, and their order.
 
 use std::collections::BTreeSet;
-use tests::calls::{agrees, RasterOut};
+use tests::calls::{agrees, raster_from_blocks};
 use tests::cases::Cases;
 use tests::library::check;
 use tests::model::blocks::{conditions, number, paint, quadtree, Blocks};
@@ -15,7 +15,7 @@ fn judged(what: &str, random: &mut Random, n: u32, blocks: &Blocks, expected: u3
     assert_eq!(check(n, codes, levels, colours), expected, "{what}: check of n = {n}, {blocks}");
     let need = if n > 8 { 16 } else { 1 << (2 * n) };
     for length in [need, need - 1, 0] {
-        let out = RasterOut::call(random, n, blocks, length);
+        let out = raster_from_blocks(random, n, blocks, length);
         let difference = match expected {
             0 if length == need => out.difference(&paint(n, blocks)),
             0 => out.difference_from_refusal(8),

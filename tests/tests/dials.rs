@@ -1,6 +1,6 @@
 //! Document 01's "Dials to try", without those that trace or print.
 
-use tests::calls::{agrees, RasterOut};
+use tests::calls::{agrees, raster_from_blocks};
 use tests::cases::Cases;
 use tests::library::check;
 use tests::model::blocks::{number, paint, Blocks};
@@ -48,7 +48,7 @@ fn dials_have_their_numbers() {
         let Blocks { codes, levels, colours } = &blocks;
         assert_eq!(number(n, codes, levels, colours), expected, "dial {dial}: the model");
         assert_eq!(check(n, codes, levels, colours), expected, "dial {dial}: check");
-        let out = RasterOut::call(&mut random, n, &blocks, 1 << (2 * n));
+        let out = raster_from_blocks(&mut random, n, &blocks, 1 << (2 * n));
         agrees(
             format_args!("dial {dial}: blocks to raster"),
             match expected {

@@ -1,6 +1,6 @@
 //! What becomes of lent lists: tails stay, lists one too short are refused, a refusal leaves everything.
 
-use tests::calls::{agrees, BlocksOut, RasterOut};
+use tests::calls::{agrees, raster_from_blocks, BlocksOut};
 use tests::cases::Cases;
 use tests::lent::{Entry, Lent};
 use tests::model::blocks::quadtree;
@@ -69,12 +69,12 @@ fn rasters_too_short_and_too_long() {
         for raster in rasters::of_every_kind(&mut random, n) {
             let blocks = quadtree(n, &raster);
             for length in [0, raster.len() / 2, raster.len() - 1] {
-                let out = RasterOut::call(&mut random, n, &blocks, length);
+                let out = raster_from_blocks(&mut random, n, &blocks, length);
                 agrees(format_args!("n = {n}, room for {length}"), out.difference_from_refusal(8));
                 cases.ran();
             }
             for more in [0, 1, 17, 3 * raster.len()] {
-                let out = RasterOut::call(&mut random, n, &blocks, raster.len() + more);
+                let out = raster_from_blocks(&mut random, n, &blocks, raster.len() + more);
                 agrees(format_args!("n = {n}, {more} entries more"), out.difference(&raster));
                 cases.ran();
             }
@@ -109,13 +109,13 @@ fn damage_is_seen() {
             out.written.number = 8;
             assert!(out.difference(&blocks).is_some(), "another number");
 
-            let mut back = RasterOut::call(&mut random, n, &blocks, more);
-            each_place(&mut random, &mut cases, &mut back, |b| &mut b.raster, &raster, |b| b.difference(&raster));
+            let mut back = raster_from_blocks(&mut random, n, &blocks, more);
+            each_place(&mut random, &mut cases, &mut back, |b| &mut b.list, &raster, |b| b.difference(&raster));
             back.written.count = 0;
             assert!(back.difference(&raster).is_some(), "another count");
 
-            let mut refused = RasterOut::call(&mut random, n, &blocks, raster.len() - 1);
-            each_place(&mut random, &mut cases, &mut refused, |r| &mut r.raster, &[], |r| r.difference_from_refusal(8));
+            let mut refused = raster_from_blocks(&mut random, n, &blocks, raster.len() - 1);
+            each_place(&mut random, &mut cases, &mut refused, |r| &mut r.list, &[], |r| r.difference_from_refusal(8));
             assert!(refused.difference_from_refusal(6).is_some(), "another number");
         }
     }

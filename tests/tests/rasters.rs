@@ -1,6 +1,6 @@
 //! Rasters to blocks and back, against the model: every small raster, and random ones of every side.
 
-use tests::calls::{agrees, BlocksOut, RasterOut};
+use tests::calls::{agrees, raster_from_blocks, BlocksOut};
 use tests::cases::Cases;
 use tests::compare::Shown;
 use tests::library::check;
@@ -17,7 +17,7 @@ fn there_and_back(random: &mut Random, n: u32, raster: &[u8], more: usize) {
     agrees(format_args!("blocks of n = {n}, {}", Shown(raster)), out.difference(&blocks));
     assert_eq!(check(n, &blocks.codes, &blocks.levels, &blocks.colours), 0, "n = {n}, {blocks}");
     assert_eq!(number(n, &blocks.codes, &blocks.levels, &blocks.colours), 0, "the model: n = {n}, {blocks}");
-    let back = RasterOut::call(random, n, &blocks, need);
+    let back = raster_from_blocks(random, n, &blocks, need);
     agrees(format_args!("raster of n = {n}, {blocks}"), back.difference(raster));
     assert_eq!(paint(n, &blocks), raster, "the model's painting");
 }
