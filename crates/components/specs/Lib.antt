@@ -1,0 +1,1 @@
+-- Regions of an image and their numbers.
