@@ -1,1 +1,4 @@
 -- Regions of an image and their numbers.
+pub mod Joined
+pub mod Numbers
+pub mod Neighbours
