@@ -2,3 +2,4 @@
 pub mod Joined
 pub mod Numbers
 pub mod Neighbours
+pub mod Numbered

@@ -1,6 +1,6 @@
 -- The representatives of 0, 1, .. as a list: the executable form.
 use mathlib.Core.Path.{_≡_, refl, _∙_}
-use mathlib.Core.List.{List, [], _∷_, map}
+use mathlib.Core.List.{List, [], _∷_, map, List·Memᴰ, List·Memᴰ·head, List·Memᴰ·tail}
 use Prim.Native.Nat.{ℕ, zero, suc, _<_, min, max}
 use native.Mathlib.Omega.{arith}
 use lib.ListN.{length, getD, length-map}
@@ -33,6 +33,12 @@ length-classes N (e ∷ es) = length-map (classes N es) _ ∙ length-classes N e
 unfoldable pub Inside : ℕ → List Pair → Type 0
 Inside N [] = Unit {0}
 Inside N (e ∷ es) = (e .one < N) × (e .two < N) × Inside N es
+
+pub inside-each : (N : ℕ) (es : List Pair) → ((e : Pair) → List·Memᴰ e es → (e .one < N) × (e .two < N)) → Inside N es
+unfolding Inside
+inside-each N [] h = tt
+inside-each N (e ∷ es) h =
+    (h e (List·Memᴰ·head refl) .0, h e (List·Memᴰ·head refl) .1, inside-each N es (λ f m. h f (List·Memᴰ·tail m)))
 
 pub classes-rep : (N : ℕ) (es : List Pair) → Inside N es → (i : ℕ) → i < N → getD (classes N es) i 0 ≡ rep es i
 unfolding classes Inside rep joinAt
