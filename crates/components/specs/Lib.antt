@@ -3,3 +3,5 @@ pub mod Joined
 pub mod Numbers
 pub mod Neighbours
 pub mod Numbered
+pub mod Holders
+pub mod ConnectedSquares
