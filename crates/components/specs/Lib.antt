@@ -5,3 +5,4 @@ pub mod Neighbours
 pub mod Numbered
 pub mod Holders
 pub mod ConnectedSquares
+pub mod Labels
