@@ -6,3 +6,5 @@ pub mod Numbered
 pub mod Holders
 pub mod ConnectedSquares
 pub mod Labels
+pub mod LastBlocks
+pub mod BlockPairs
