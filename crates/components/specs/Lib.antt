@@ -8,3 +8,4 @@ pub mod ConnectedSquares
 pub mod Labels
 pub mod LastBlocks
 pub mod BlockPairs
+pub mod LinkedBlocks
