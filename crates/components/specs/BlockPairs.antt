@@ -29,19 +29,24 @@ spanPairs entry ks k x (suc s) =
       | false ↦ spanPairs entry ks k (suc x) s
     ]
 
--- With the blocks north of it: the last ones in its columns. In the first row there are none.
+-- No pairs where a block begins in the first row, or in the first column: nothing of the image lies beyond.
+unfoldable pub unlessFirst : ℕ → List Pair → List Pair
+unlessFirst zero es = []
+unlessFirst (suc z) es = es
+
+-- With the blocks north of it: the last ones in its columns.
 unfoldable pub northPairs : ℕ → List Block → ℕ → List Pair
-unfolding spanPairs lastInColumn column row
+unfolding unlessFirst spanPairs lastInColumn column row
 northPairs n bs k =
     let b = blockAt bs k in
-    elim (ltb 0 (row n (b .code))) [ true ↦ spanPairs (lastInColumn n bs k) (colours bs) k (column n (b .code)) (2 ^ b .level) | false ↦ [] ]
+    unlessFirst (row n (b .code)) (spanPairs (lastInColumn n bs k) (colours bs) k (column n (b .code)) (2 ^ b .level))
 
--- With the blocks west of it: the last ones in its rows. In the first column there are none.
+-- With the blocks west of it: the last ones in its rows.
 unfoldable pub westPairs : ℕ → List Block → ℕ → List Pair
-unfolding spanPairs lastInRow column row
+unfolding unlessFirst spanPairs lastInRow column row
 westPairs n bs k =
     let b = blockAt bs k in
-    elim (ltb 0 (column n (b .code))) [ true ↦ spanPairs (lastInRow n bs k) (colours bs) k (row n (b .code)) (2 ^ b .level) | false ↦ [] ]
+    unlessFirst (column n (b .code)) (spanPairs (lastInRow n bs k) (colours bs) k (row n (b .code)) (2 ^ b .level))
 
 -- All pairs joined by the first k blocks, the latest in front.
 unfoldable pub blockPairs : ℕ → List Block → ℕ → List Pair
@@ -139,24 +144,34 @@ span-listed entry ks k x (suc s) at a b h =
 
 -- ---- the pairs of a block, as equations
 
+pub pairs-at-edge : (z : ℕ) (es : List Pair) → z ≡ 0 → unlessFirst z es ≡ []
+unfolding unlessFirst
+pairs-at-edge zero es h = refl
+pairs-at-edge (suc z) es h = absurd (omega arith)
+
+pub pairs-inside : (z : ℕ) (es : List Pair) → 0 < z → unlessFirst z es ≡ es
+unfolding unlessFirst
+pairs-inside zero es h = absurd (omega arith)
+pairs-inside (suc z) es h = refl
+
 module _ (n : ℕ) (bs : List Block) (k : ℕ) where
   pub north-pairs : 0 < row n (blockAt bs k .code)
       → northPairs n bs k ≡ spanPairs (lastInColumn n bs k) (colours bs) k (column n (blockAt bs k .code)) (2 ^ blockAt bs k .level)
   unfolding northPairs
-  north-pairs h = rw (lt-ltb 0 (row n (blockAt bs k .code)) h, northPairs)
+  north-pairs h = pairs-inside (row n (blockAt bs k .code)) _ h
 
   pub no-north-pairs : row n (blockAt bs k .code) ≡ 0 → northPairs n bs k ≡ []
   unfolding northPairs
-  no-north-pairs h = rw (le-ltb 0 (row n (blockAt bs k .code)) (omega arith), northPairs)
+  no-north-pairs h = pairs-at-edge (row n (blockAt bs k .code)) _ h
 
   pub west-pairs : 0 < column n (blockAt bs k .code)
       → westPairs n bs k ≡ spanPairs (lastInRow n bs k) (colours bs) k (row n (blockAt bs k .code)) (2 ^ blockAt bs k .level)
   unfolding westPairs
-  west-pairs h = rw (lt-ltb 0 (column n (blockAt bs k .code)) h, westPairs)
+  west-pairs h = pairs-inside (column n (blockAt bs k .code)) _ h
 
   pub no-west-pairs : column n (blockAt bs k .code) ≡ 0 → westPairs n bs k ≡ []
   unfolding westPairs
-  no-west-pairs h = rw (le-ltb 0 (column n (blockAt bs k .code)) (omega arith), westPairs)
+  no-west-pairs h = pairs-at-edge (column n (blockAt bs k .code)) _ h
 
   pub pairs-one-more : blockPairs n bs (suc k) ≡ onto (westPairs n bs k) (onto (northPairs n bs k) (blockPairs n bs k))
   unfolding blockPairs

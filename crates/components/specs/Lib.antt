@@ -9,3 +9,4 @@ pub mod Labels
 pub mod LastBlocks
 pub mod BlockPairs
 pub mod LinkedBlocks
+pub mod BlockNumbers
