@@ -10,3 +10,5 @@ pub mod LastBlocks
 pub mod BlockPairs
 pub mod LinkedBlocks
 pub mod BlockNumbers
+pub mod Stretches
+pub mod Spans

@@ -4,6 +4,7 @@ pub mod Representatives
 pub mod Classes
 pub mod Counting
 pub mod Roots
+pub mod OwnParents
 pub mod Halving
 pub mod Joining
 pub mod Numbering
