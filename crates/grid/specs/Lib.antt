@@ -1,0 +1,6 @@
+-- Outlines: the map, the rule of steps, cycles, their listing; and their laws.
+pub mod Map
+pub mod Steps
+pub mod Cycles
+pub mod Listing
+pub mod Dials

@@ -1,0 +1,4 @@
+-- The pigeonhole, iterates and orbits, starts of orbits.
+pub mod Pigeon
+pub mod Orbits
+pub mod Starts
