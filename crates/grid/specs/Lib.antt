@@ -4,3 +4,5 @@ pub mod Steps
 pub mod Cycles
 pub mod Listing
 pub mod Dials
+pub mod Margins
+pub mod Undoing
