@@ -6,3 +6,4 @@ pub mod Listing
 pub mod Dials
 pub mod Margins
 pub mod Undoing
+pub mod East
