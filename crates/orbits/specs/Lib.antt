@@ -1,4 +1,5 @@
--- The pigeonhole, iterates and orbits, starts of orbits.
+-- The pigeonhole, members of lists, iterates and orbits, starts of orbits.
 pub mod Pigeon
+pub mod Members
 pub mod Orbits
 pub mod Starts
