@@ -7,3 +7,5 @@ pub mod Dials
 pub mod Margins
 pub mod Undoing
 pub mod East
+pub mod Returning
+pub mod Pinches
