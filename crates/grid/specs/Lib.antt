@@ -9,3 +9,4 @@ pub mod Undoing
 pub mod East
 pub mod Returning
 pub mod Pinches
+pub mod Sides
