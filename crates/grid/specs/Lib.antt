@@ -10,3 +10,4 @@ pub mod East
 pub mod Returning
 pub mod Pinches
 pub mod Sides
+pub mod North
