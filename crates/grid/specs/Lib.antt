@@ -11,3 +11,4 @@ pub mod Returning
 pub mod Pinches
 pub mod Sides
 pub mod North
+pub mod Starting
