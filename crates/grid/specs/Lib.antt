@@ -12,3 +12,4 @@ pub mod Pinches
 pub mod Sides
 pub mod North
 pub mod Starting
+pub mod Closing
