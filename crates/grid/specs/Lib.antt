@@ -13,3 +13,4 @@ pub mod Sides
 pub mod North
 pub mod Starting
 pub mod Closing
+pub mod Keeping
