@@ -135,4 +135,4 @@ module _ (n : ℕ) (nums : List ℕ) where
   pub starts-fit : (regions : ℕ) → length (startCodes n nums regions) ≤ 4 ^ n
   starts-fit regions =
       distinct-length (4 ^ n) (startCodes n nums regions) (start-codes-distinct regions)
-      (λ i h. in-start-codes regions (getD (startCodes n nums regions) i 0) .0 (i, h, refl) .0)
+      (λ c h. in-start-codes regions c .0 h .0)

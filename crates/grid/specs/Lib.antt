@@ -14,3 +14,5 @@ pub mod North
 pub mod Starting
 pub mod Closing
 pub mod Keeping
+pub mod Listed
+pub mod Bounds

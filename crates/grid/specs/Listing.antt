@@ -1,7 +1,7 @@
 -- The listing of all cycles: their order, owners, ends and corners.
 use mathlib.Core.Bool.{Bool, true, false}
 use mathlib.Core.List.{List, [], _∷_, _++_, map, flatMap}
-use Prim.Native.Nat.{ℕ, _+_, _^_}
+use Prim.Native.Nat.{ℕ, zero, suc, _+_, _^_}
 use lib.ListN.{length, getD}
 use lib.Dec.{eqb}
 use Rattle.sequences.specs.Ranges.{range}
@@ -59,6 +59,12 @@ ends cs = endsFrom 0 cs
 unfoldable pub allCorners : List Cycle → List ℕ
 allCorners [] = []
 allCorners (c ∷ cs) = c .points ++ allCorners cs
+
+-- The corners of the cycle k of a list.
+unfoldable pub pointsAt : List Cycle → ℕ → List ℕ
+pointsAt [] k = []
+pointsAt (c ∷ cs) zero = c .points
+pointsAt (c ∷ cs) (suc k) = pointsAt cs k
 
 -- "The counts are those of the regions, of the cycles, and of the corners of all cycles" (document 01, "Outlines").
 unfoldable pub cycleCount : List Cycle → ℕ

@@ -123,12 +123,17 @@ one-place l d i j h k e =
       ]
     ]
 
--- A list of numbers below N without repeats has at most N entries.
-pub distinct-length : (N : ℕ) (l : List ℕ) → Distinct l → ((i : ℕ) → i < length l → getD l i 0 < N) → length l ≤ N
-distinct-length N l d below =
+-- A list without repeats, whose entries have different keys below N, has at most N entries.
+pub keyed-length : (key : ℕ → ℕ) (N : ℕ) (l : List ℕ) → Distinct l → ((a : ℕ) → In a l → key a < N)
+    → ((a b : ℕ) → In a l → In b l → key a ≡ key b → a ≡ b) → length l ≤ N
+keyed-length key N l d below injective =
     elim (decLe (length l) N) [
       | yes h ↦ h
       | no h ↦
-          let r : Repeat (λ i. getD l i 0) N = pigeonhole N (λ i. getD l i 0) (λ i g. below i (omega arith)) in
-          absurd (d (r .i) (r .j) (r .less) (omega (arith, r .within)) (r .same))
+          let r : Repeat (λ i. key (getD l i 0)) N = pigeonhole N (λ i. key (getD l i 0)) (λ i g. below (getD l i 0) (i, omega arith, refl)) in
+          absurd (d (r .i) (r .j) (r .less) (omega (arith, r .within)) (injective (getD l (r .i) 0) (getD l (r .j) 0)
+          (r .i, omega (arith, r .less, r .within), refl) (r .j, omega (arith, r .within), refl) (r .same)))
     ]
+
+pub distinct-length : (N : ℕ) (l : List ℕ) → Distinct l → ((a : ℕ) → In a l → a < N) → length l ≤ N
+distinct-length N l d below = keyed-length (λ a. a) N l d below (λ a b h k e. e)
