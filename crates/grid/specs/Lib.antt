@@ -16,3 +16,4 @@ pub mod Closing
 pub mod Keeping
 pub mod Listed
 pub mod Bounds
+pub mod Forms

@@ -75,7 +75,7 @@ pub record OutlinesListed (n : ℕ) (nums : List ℕ) (l : List Cycle) (codes : 
   pub in-order : (j k : ℕ) → j < k → k < length l
       → (getD (owners l) j 0 < getD (owners l) k 0) ⊎ ((getD (owners l) j 0 ≡ getD (owners l) k 0) × (getD codes j 0 < getD codes k 0))
 
-module _ (n : ℕ) (nums : List ℕ) (regions : ℕ) (small : n ≤ 8) (known : (c : ℕ) → c < 4 ^ n → getD nums c 0 < regions) where
+module _ (n : ℕ) (nums : List ℕ) (regions : ℕ) (small : n ≤ 8) where
   below : (k : ℕ) → k < length (listing n nums regions) → k < length (startCodes n nums regions)
   below k h = omega (arith, listing-length n nums regions)
 
@@ -100,6 +100,8 @@ module _ (n : ℕ) (nums : List ℕ) (regions : ℕ) (small : n ≤ 8) (known : 
       one-place (startCodes n nums regions) (start-codes-distinct n nums regions) j k (below j h) (below k g)
       (one-start n nums small (getD (startCodes n nums regions) j 0) (getD (startCodes n nums regions) k 0) a (start-at j h) (start-at k g) x y)
 
+-- Every number of the image is one of a listed region.
+module _ (n : ℕ) (nums : List ℕ) (regions : ℕ) (small : n ≤ 8) (known : (c : ℕ) → c < 4 ^ n → getD nums c 0 < regions) where
   -- The listed cycle through an edge.
   pub record Found (r e : ℕ) : Type 0 where
     pub cycle-number : ℕ
@@ -127,18 +129,18 @@ module _ (n : ℕ) (nums : List ℕ) (regions : ℕ) (small : n ≤ 8) (known : 
       from : Found r e → OnceIn (listing n nums regions) r e
       from f =
           let k : ℕ = f .cycle-number in
-          let o : outline (pointsAt (listing n nums regions) k) ≡ cycle n nums (getD (startCodes n nums regions) k 0) = outline-at k (f .listed) in
+          let o : outline (pointsAt (listing n nums regions) k) ≡ cycle n nums (getD (startCodes n nums regions) k 0) = outline-at n nums regions small k (f .listed) in
           let s : In e (outline (pointsAt (listing n nums regions) k)) = subst (In e) (sym o) (f .stands) in
-          let d : Distinct (outline (pointsAt (listing n nums regions) k)) = subst Distinct (sym o) (ring-at k (f .listed) .once) in
+          let d : Distinct (outline (pointsAt (listing n nums regions) k)) = subst Distinct (sym o) (ring-at n nums regions small k (f .listed) .once) in
           record {
             cycle = k;
             listed = f .listed;
-            owner = owner-at n nums regions k (below k (f .listed)) ∙ f .owned;
+            owner = owner-at n nums regions k (below n nums regions small k (f .listed)) ∙ f .owned;
             place = s .0;
             inside = s .1;
             side = s .2;
             only = λ j i g b q.
-              let same : j ≡ k = same-listed j k e g (f .listed) (subst (In e) (outline-at j g) (i, b, q)) (f .stands) in
+              let same : j ≡ k = same-listed n nums regions small j k e g (f .listed) (subst (In e) (outline-at n nums regions small j g) (i, b, q)) (f .stands) in
               (same, one-place (outline (pointsAt (listing n nums regions) k)) d i (s .0)
                 (subst (λ x. i < length (outline (pointsAt (listing n nums regions) x))) same b) (s .1)
                 (subst (λ x. getD (outline (pointsAt (listing n nums regions) x)) i 0 ≡ e) same q ∙ sym (s .2)));
@@ -149,8 +151,8 @@ module _ (n : ℕ) (nums : List ℕ) (regions : ℕ) (small : n ≤ 8) (known : 
   each-side-once = record {
     once = once-in;
     nothing-else = λ k i h b.
-      subst (λ r. Edge (regionAt n nums) (suc r) (getD (outline (pointsAt (listing n nums regions) k)) i 0)) (sym (owner-at n nums regions k (below k h)))
-      (ring-at k h .edges (getD (outline (pointsAt (listing n nums regions) k)) i 0) (subst (In (getD (outline (pointsAt (listing n nums regions) k)) i 0)) (outline-at k h) (i, b, refl)));
+      subst (λ r. Edge (regionAt n nums) (suc r) (getD (outline (pointsAt (listing n nums regions) k)) i 0)) (sym (owner-at n nums regions k (below n nums regions small k h)))
+      (ring-at n nums regions small k h .edges (getD (outline (pointsAt (listing n nums regions) k)) i 0) (subst (In (getD (outline (pointsAt (listing n nums regions) k)) i 0)) (outline-at n nums regions small k h) (i, b, refl)));
   }
 
   listed-outline : (r e : ℕ) → Edge (regionAt n nums) (suc r) e
@@ -166,26 +168,26 @@ module _ (n : ℕ) (nums : List ℕ) (regions : ℕ) (small : n ≤ 8) (known : 
           let k : ℕ = f .cycle-number in
           let c : ℕ = getD (startCodes n nums regions) k 0 in
           let same : (a : ℕ) → In a (cycle n nums c) ↔ In a (cycleFrom (regionAt n nums) e) =
-            same-cycle (regionAt n nums) (margin n nums small) (suc (getD nums c 0)) (northSide n c) e (start-at k (f .listed) .north) (f .stands) in
-          (k, f .listed, owner-at n nums regions k (below k (f .listed)) ∙ f .owned,
-          λ a. (λ x. subst (In a) (sym (outline-at k (f .listed))) (same a .1 x), λ x. same a .0 (subst (In a) (outline-at k (f .listed)) x)))
+            same-cycle (regionAt n nums) (margin n nums small) (suc (getD nums c 0)) (northSide n c) e (start-at n nums regions small k (f .listed) .north) (f .stands) in
+          (k, f .listed, owner-at n nums regions k (below n nums regions small k (f .listed)) ∙ f .owned,
+          λ a. (λ x. subst (In a) (sym (outline-at n nums regions small k (f .listed))) (same a .1 x), λ x. same a .0 (subst (In a) (outline-at n nums regions small k (f .listed)) x)))
 
   order-at : (j k : ℕ) → j < k → k < length (listing n nums regions)
       → (getD (owners (listing n nums regions)) j 0 < getD (owners (listing n nums regions)) k 0)
         ⊎ ((getD (owners (listing n nums regions)) j 0 ≡ getD (owners (listing n nums regions)) k 0) × (getD (startCodes n nums regions) j 0 < getD (startCodes n nums regions) k 0))
   order-at j k h g =
       subst₂ (λ a b. (a < b) ⊎ ((a ≡ b) × (getD (startCodes n nums regions) j 0 < getD (startCodes n nums regions) k 0)))
-      (sym (owner-at n nums regions j (omega (arith, below k g)))) (sym (owner-at n nums regions k (below k g)))
-      (in-order n nums regions j k h (below k g))
+      (sym (owner-at n nums regions j (omega (arith, below n nums regions small k g)))) (sym (owner-at n nums regions k (below n nums regions small k g)))
+      (in-order n nums regions j k h (below n nums regions small k g))
 
   pub all-outlines-listed : OutlinesListed n nums (listing n nums regions) (startCodes n nums regions)
   all-outlines-listed = record {
     one-start-each = listing-length n nums regions;
     each-outline = listed-outline;
     each-once = λ j k h g a x y.
-      let e : j ≡ k = same-listed j k a (omega arith) g (subst (In a) (outline-at j (omega arith)) x) (subst (In a) (outline-at k g) y) in omega arith;
-    starts = start-at;
-    from-start = λ k h. points-at n nums regions k (below k h);
-    owner = λ k h. owner-at n nums regions k (below k h);
+      let e : j ≡ k = same-listed n nums regions small j k a (omega arith) g (subst (In a) (outline-at n nums regions small j (omega arith)) x) (subst (In a) (outline-at n nums regions small k g) y) in omega arith;
+    starts = start-at n nums regions small;
+    from-start = λ k h. points-at n nums regions k (below n nums regions small k h);
+    owner = λ k h. owner-at n nums regions k (below n nums regions small k h);
     in-order = order-at;
   }
