@@ -76,118 +76,126 @@ pub record OutlinesListed (n : ℕ) (nums : List ℕ) (l : List Cycle) (codes : 
       → (getD (owners l) j 0 < getD (owners l) k 0) ⊎ ((getD (owners l) j 0 ≡ getD (owners l) k 0) × (getD codes j 0 < getD codes k 0))
 
 module _ (n : ℕ) (nums : List ℕ) (regions : ℕ) (small : n ≤ 8) where
-  below : (k : ℕ) → k < length (listing n nums regions) → k < length (startCodes n nums regions)
+  abbrev m : ℕ → ℕ → ℕ
+  m = regionAt n nums
+
+  abbrev l : List Cycle
+  l = listing n nums regions
+
+  -- The code of the start pixel of the cycle k.
+  abbrev start : ℕ → ℕ
+  start k = getD (startCodes n nums regions) k 0
+
+  abbrev owner : ℕ → ℕ
+  owner k = getD (owners (listing n nums regions)) k 0
+
+  abbrev sides : ℕ → List ℕ
+  sides k = outline (pointsAt (listing n nums regions) k)
+
+  below : (k : ℕ) → k < length l → k < length (startCodes n nums regions)
   below k h = omega (arith, listing-length n nums regions)
 
-  pub start-at : (k : ℕ) → k < length (listing n nums regions) → StartAt n nums (getD (startCodes n nums regions) k 0)
+  pub start-at : (k : ℕ) → k < length l → StartAt n nums (start k)
   start-at k h =
-      let c = in-start-codes n nums regions (getD (startCodes n nums regions) k 0) .0 (k, below k h, refl) in
-      start-says n nums small (getD (startCodes n nums regions) k 0) (c .0) (c .2)
+      let c = in-start-codes n nums regions (start k) .0 (k, below k h, refl) in
+      start-says n nums small (start k) (c .0) (c .2)
 
-  pub outline-at : (k : ℕ) → k < length (listing n nums regions) → outline (pointsAt (listing n nums regions) k) ≡ cycle n nums (getD (startCodes n nums regions) k 0)
-  outline-at k h = ap outline (points-at n nums regions k (below k h)) ∙ sides-of-corners n nums small (getD (startCodes n nums regions) k 0) (start-at k h)
+  -- The sides of the outline k are the edges of the cycle from its start.
+  pub outline-at : (k : ℕ) → k < length l → sides k ≡ cycle n nums (start k)
+  outline-at k h = ap outline (points-at n nums regions k (below k h)) ∙ sides-of-corners n nums small (start k) (start-at k h)
 
-  pub ring-at : (k : ℕ) → k < length (listing n nums regions)
-      → Ring (regionAt n nums) (suc (getD nums (getD (startCodes n nums regions) k 0) 0)) (northSide n (getD (startCodes n nums regions) k 0))
-  ring-at k h =
-      ring (regionAt n nums) (margin n nums small) (suc (getD nums (getD (startCodes n nums regions) k 0) 0)) (northSide n (getD (startCodes n nums regions) k 0))
-      (start-at k h .north)
+  pub ring-at : (k : ℕ) → k < length l → Ring m (suc (getD nums (start k) 0)) (northSide n (start k))
+  ring-at k h = ring m (margin n nums small) (suc (getD nums (start k) 0)) (northSide n (start k)) (start-at k h .north)
 
   -- Two listed outlines with an edge in common are one.
-  pub same-listed : (j k a : ℕ) → j < length (listing n nums regions) → k < length (listing n nums regions)
-      → In a (cycle n nums (getD (startCodes n nums regions) j 0)) → In a (cycle n nums (getD (startCodes n nums regions) k 0)) → j ≡ k
+  pub same-listed : (j k a : ℕ) → j < length l → k < length l → In a (sides j) → In a (sides k) → j ≡ k
   same-listed j k a h g x y =
       one-place (startCodes n nums regions) (start-codes-distinct n nums regions) j k (below j h) (below k g)
-      (one-start n nums small (getD (startCodes n nums regions) j 0) (getD (startCodes n nums regions) k 0) a (start-at j h) (start-at k g) x y)
+      (one-start n nums small (start j) (start k) a (start-at j h) (start-at k g)
+      (subst (In a) (outline-at j h) x) (subst (In a) (outline-at k g) y))
 
--- Every number of the image is one of a listed region.
-module _ (n : ℕ) (nums : List ℕ) (regions : ℕ) (small : n ≤ 8) (known : (c : ℕ) → c < 4 ^ n → getD nums c 0 < regions) where
-  -- The listed cycle through an edge.
-  pub record Found (r e : ℕ) : Type 0 where
-    pub cycle-number : ℕ
-    pub listed : cycle-number < length (listing n nums regions)
-    pub owned : getD nums (getD (startCodes n nums regions) cycle-number 0) 0 ≡ r
-    pub stands : In e (cycle n nums (getD (startCodes n nums regions) cycle-number 0))
-
-  pub find : (r e : ℕ) → Edge (regionAt n nums) (suc r) e → Found r e
-  find r e h =
-      let s : Started n nums small (suc r) e = some-start n nums small (suc r) e h in
-      let c : ℕ = s .start in
-      let i : In c (startCodes n nums regions) =
-        in-start-codes n nums regions c .1 (s .starts .inside, known c (s .starts .inside), says-start n nums small c (s .starts)) in
-      record {
-        cycle-number = i .0;
-        listed = omega (arith, listing-length n nums regions, i .1);
-        owned = ap (λ x. getD nums x 0) (i .2) ∙ omega (arith, s .number);
-        stands = subst (λ x. In e (cycle n nums x)) (sym (i .2)) (s .on-cycle);
-      }
-
-  once-in : (r e : ℕ) → Edge (regionAt n nums) (suc r) e → OnceIn (listing n nums regions) r e
+  -- Nothing else than edges of the owner stands in an outline.
+  edge-at : (k i : ℕ) → k < length l → i < length (sides k) → Edge m (suc (owner k)) (getD (sides k) i 0)
   unfolding cycle
-  once-in r e h = from (find r e h)
-    where
-      from : Found r e → OnceIn (listing n nums regions) r e
-      from f =
-          let k : ℕ = f .cycle-number in
-          let o : outline (pointsAt (listing n nums regions) k) ≡ cycle n nums (getD (startCodes n nums regions) k 0) = outline-at n nums regions small k (f .listed) in
-          let s : In e (outline (pointsAt (listing n nums regions) k)) = subst (In e) (sym o) (f .stands) in
-          let d : Distinct (outline (pointsAt (listing n nums regions) k)) = subst Distinct (sym o) (ring-at n nums regions small k (f .listed) .once) in
-          record {
-            cycle = k;
-            listed = f .listed;
-            owner = owner-at n nums regions k (below n nums regions small k (f .listed)) ∙ f .owned;
-            place = s .0;
-            inside = s .1;
-            side = s .2;
-            only = λ j i g b q.
-              let same : j ≡ k = same-listed n nums regions small j k e g (f .listed) (subst (In e) (outline-at n nums regions small j g) (i, b, q)) (f .stands) in
-              (same, one-place (outline (pointsAt (listing n nums regions) k)) d i (s .0)
-                (subst (λ x. i < length (outline (pointsAt (listing n nums regions) x))) same b) (s .1)
-                (subst (λ x. getD (outline (pointsAt (listing n nums regions) x)) i 0 ≡ e) same q ∙ sym (s .2)));
-          }
+  edge-at k i h b =
+      subst (λ r. Edge m (suc r) (getD (sides k) i 0)) (sym (owner-at n nums regions k (below k h)))
+      (ring-at k h .edges (getD (sides k) i 0) (subst (In (getD (sides k) i 0)) (outline-at k h) (i, b, refl)))
 
-  pub each-side-once : SidesOnce (regionAt n nums) (listing n nums regions)
-  unfolding cycle
-  each-side-once = record {
-    once = once-in;
-    nothing-else = λ k i h b.
-      subst (λ r. Edge (regionAt n nums) (suc r) (getD (outline (pointsAt (listing n nums regions) k)) i 0)) (sym (owner-at n nums regions k (below n nums regions small k h)))
-      (ring-at n nums regions small k h .edges (getD (outline (pointsAt (listing n nums regions) k)) i 0) (subst (In (getD (outline (pointsAt (listing n nums regions) k)) i 0)) (outline-at n nums regions small k h) (i, b, refl)));
-  }
-
-  listed-outline : (r e : ℕ) → Edge (regionAt n nums) (suc r) e
-      → (k : ℕ) × (k < length (listing n nums regions)) × (getD (owners (listing n nums regions)) k 0 ≡ r)
-        × ((a : ℕ) → In a (cycleFrom (regionAt n nums) e) ↔ In a (outline (pointsAt (listing n nums regions) k)))
-  unfolding cycle
-  listed-outline r e h = from (find r e h)
-    where
-      from : Found r e
-          → (k : ℕ) × (k < length (listing n nums regions)) × (getD (owners (listing n nums regions)) k 0 ≡ r)
-            × ((a : ℕ) → In a (cycleFrom (regionAt n nums) e) ↔ In a (outline (pointsAt (listing n nums regions) k)))
-      from f =
-          let k : ℕ = f .cycle-number in
-          let c : ℕ = getD (startCodes n nums regions) k 0 in
-          let same : (a : ℕ) → In a (cycle n nums c) ↔ In a (cycleFrom (regionAt n nums) e) =
-            same-cycle (regionAt n nums) (margin n nums small) (suc (getD nums c 0)) (northSide n c) e (start-at n nums regions small k (f .listed) .north) (f .stands) in
-          (k, f .listed, owner-at n nums regions k (below n nums regions small k (f .listed)) ∙ f .owned,
-          λ a. (λ x. subst (In a) (sym (outline-at n nums regions small k (f .listed))) (same a .1 x), λ x. same a .0 (subst (In a) (outline-at n nums regions small k (f .listed)) x)))
-
-  order-at : (j k : ℕ) → j < k → k < length (listing n nums regions)
-      → (getD (owners (listing n nums regions)) j 0 < getD (owners (listing n nums regions)) k 0)
-        ⊎ ((getD (owners (listing n nums regions)) j 0 ≡ getD (owners (listing n nums regions)) k 0) × (getD (startCodes n nums regions) j 0 < getD (startCodes n nums regions) k 0))
+  order-at : (j k : ℕ) → j < k → k < length l → (owner j < owner k) ⊎ ((owner j ≡ owner k) × (start j < start k))
   order-at j k h g =
-      subst₂ (λ a b. (a < b) ⊎ ((a ≡ b) × (getD (startCodes n nums regions) j 0 < getD (startCodes n nums regions) k 0)))
-      (sym (owner-at n nums regions j (omega (arith, below n nums regions small k g)))) (sym (owner-at n nums regions k (below n nums regions small k g)))
-      (in-order n nums regions j k h (below n nums regions small k g))
+      subst₂ (λ a b. (a < b) ⊎ ((a ≡ b) × (start j < start k)))
+      (sym (owner-at n nums regions j (omega (arith, below k g)))) (sym (owner-at n nums regions k (below k g)))
+      (in-order n nums regions j k h (below k g))
 
-  pub all-outlines-listed : OutlinesListed n nums (listing n nums regions) (startCodes n nums regions)
-  all-outlines-listed = record {
-    one-start-each = listing-length n nums regions;
-    each-outline = listed-outline;
-    each-once = λ j k h g a x y.
-      let e : j ≡ k = same-listed n nums regions small j k a (omega arith) g (subst (In a) (outline-at n nums regions small j (omega arith)) x) (subst (In a) (outline-at n nums regions small k g) y) in omega arith;
-    starts = start-at n nums regions small;
-    from-start = λ k h. points-at n nums regions k (below n nums regions small k h);
-    owner = λ k h. owner-at n nums regions k (below n nums regions small k h);
-    in-order = order-at;
-  }
+  -- Every number of the image is that of a listed region.
+  module _ (known : (c : ℕ) → c < 4 ^ n → getD nums c 0 < regions) where
+    -- The listed cycle through an edge.
+    pub record Found (r e : ℕ) : Type 0 where
+      pub cycle-number : ℕ
+      pub listed : cycle-number < length l
+      pub owned : getD nums (start cycle-number) 0 ≡ r
+      pub stands : In e (cycle n nums (start cycle-number))
+
+    pub find : (r e : ℕ) → Edge m (suc r) e → Found r e
+    find r e h =
+        let s : Started n nums small (suc r) e = some-start n nums small (suc r) e h in
+        let c : ℕ = s .start in
+        let i : In c (startCodes n nums regions) =
+          in-start-codes n nums regions c .1 (s .starts .inside, known c (s .starts .inside), says-start n nums small c (s .starts)) in
+        record {
+          cycle-number = i .0;
+          listed = omega (arith, listing-length n nums regions, i .1);
+          owned = ap (λ x. getD nums x 0) (i .2) ∙ omega (arith, s .number);
+          stands = subst (λ x. In e (cycle n nums x)) (sym (i .2)) (s .on-cycle);
+        }
+
+    once-in : (r e : ℕ) → Edge m (suc r) e → OnceIn l r e
+    unfolding cycle
+    once-in r e h = from (find r e h)
+      where
+        from : Found r e → OnceIn l r e
+        from f =
+            let k : ℕ = f .cycle-number in
+            let o : sides k ≡ cycle n nums (start k) = outline-at k (f .listed) in
+            let s : In e (sides k) = subst (In e) (sym o) (f .stands) in
+            let d : Distinct (sides k) = subst Distinct (sym o) (ring-at k (f .listed) .once) in
+            record {
+              cycle = k;
+              listed = f .listed;
+              owner = owner-at n nums regions k (below k (f .listed)) ∙ f .owned;
+              place = s .0;
+              inside = s .1;
+              side = s .2;
+              only = λ j i g b q.
+                let same : j ≡ k = same-listed j k e g (f .listed) (i, b, q) s in
+                (same, one-place (sides k) d i (s .0) (subst (λ x. i < length (sides x)) same b) (s .1) (subst (λ x. getD (sides x) i 0 ≡ e) same q ∙ sym (s .2)));
+            }
+
+    pub each-side-once : SidesOnce m l
+    each-side-once = record { once = once-in; nothing-else = edge-at }
+
+    outline-of : (r e : ℕ) → Edge m (suc r) e
+        → (k : ℕ) × (k < length l) × (owner k ≡ r) × ((a : ℕ) → In a (cycleFrom m e) ↔ In a (sides k))
+    unfolding cycle
+    outline-of r e h = from (find r e h)
+      where
+        from : Found r e → (k : ℕ) × (k < length l) × (owner k ≡ r) × ((a : ℕ) → In a (cycleFrom m e) ↔ In a (sides k))
+        from f =
+            let k : ℕ = f .cycle-number in
+            let c : ℕ = start k in
+            let o : sides k ≡ cycle n nums c = outline-at k (f .listed) in
+            let same : (a : ℕ) → In a (cycle n nums c) ↔ In a (cycleFrom m e) =
+              same-cycle m (margin n nums small) (suc (getD nums c 0)) (northSide n c) e (start-at k (f .listed) .north) (f .stands) in
+            (k, f .listed, owner-at n nums regions k (below k (f .listed)) ∙ f .owned,
+            λ a. (λ x. subst (In a) (sym o) (same a .1 x), λ x. same a .0 (subst (In a) o x)))
+
+    pub all-outlines-listed : OutlinesListed n nums l (startCodes n nums regions)
+    all-outlines-listed = record {
+      one-start-each = listing-length n nums regions;
+      each-outline = outline-of;
+      each-once = λ j k h g a x y. let e : j ≡ k = same-listed j k a (omega arith) g x y in omega arith;
+      starts = start-at;
+      from-start = λ k h. points-at n nums regions k (below k h);
+      owner = λ k h. owner-at n nums regions k (below k h);
+      in-order = order-at;
+    }
