@@ -17,3 +17,4 @@ pub mod Keeping
 pub mod Listed
 pub mod Bounds
 pub mod Forms
+pub mod Outer

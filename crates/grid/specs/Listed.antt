@@ -121,7 +121,7 @@ module _ (n : ℕ) (nums : List ℕ) (regions : ℕ) (small : n ≤ 8) where
       subst (λ r. Edge m (suc r) (getD (sides k) i 0)) (sym (owner-at n nums regions k (below k h)))
       (ring-at k h .edges (getD (sides k) i 0) (subst (In (getD (sides k) i 0)) (outline-at k h) (i, b, refl)))
 
-  order-at : (j k : ℕ) → j < k → k < length l → (owner j < owner k) ⊎ ((owner j ≡ owner k) × (start j < start k))
+  pub order-at : (j k : ℕ) → j < k → k < length l → (owner j < owner k) ⊎ ((owner j ≡ owner k) × (start j < start k))
   order-at j k h g =
       subst₂ (λ a b. (a < b) ⊎ ((a ≡ b) × (start j < start k)))
       (sym (owner-at n nums regions j (omega (arith, below k g)))) (sym (owner-at n nums regions k (below k g)))
