@@ -18,3 +18,4 @@ pub mod Listed
 pub mod Bounds
 pub mod Forms
 pub mod Outer
+pub mod Stretches
