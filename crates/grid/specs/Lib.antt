@@ -19,3 +19,4 @@ pub mod Bounds
 pub mod Forms
 pub mod Outer
 pub mod Stretches
+pub mod Unseen
