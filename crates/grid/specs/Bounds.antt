@@ -1,9 +1,8 @@
 -- How much is listed: at most 4^n cycles and 4 times 4^n corners, so the needs that document 01 states suffice.
-use mathlib.Core.Path.{_≡_, refl, sym, ap, ap₂, _∙_, subst}
+use mathlib.Core.Path.{_≡_, sym, ap, ap₂, _∙_, subst}
 use mathlib.Core.Logic.{_≢_}
-use mathlib.Core.Bool.{Bool, true, false}
-use mathlib.Core.List.{List, [], _∷_, _++_, map, flatMap}
-use Prim.Native.Nat.{ℕ, zero, suc, _+_, _-_, _*_, _/_, _%_, _^_, _≤_, _<_}
+use mathlib.Core.List.{List, [], _∷_, map, flatMap}
+use Prim.Native.Nat.{ℕ, suc, _+_, _*_, _^_, _≤_, _<_}
 use native.Mathlib.Decide.{ℕ-discrete}
 use native.Mathlib.Omega.{arith}
 use lib.ListN.{length, getD, length-append}
@@ -20,7 +19,7 @@ use Rattle.grid.specs.Cycles.{northSide, cycle, cycleFrom}
 use Rattle.grid.specs.Listing.{startCodes, Cycle, cycleAt, listing, allCorners, cycleCount, cornerCount}
 use Rattle.grid.specs.Undoing.{digit-below-four}
 use Rattle.grid.specs.Sides.{sideOf, rightX, rightY, RightOf, edge-is-side}
-use Rattle.grid.specs.Returning.{Ring, ring, same-region}
+use Rattle.grid.specs.Returning.{Ring, ring}
 use Rattle.grid.specs.Starting.{StartAt, margin, start-says, one-start}
 use Rattle.grid.specs.Keeping.{in-start-codes, start-codes-distinct, starts-fit}
 use Rattle.grid.specs.Listed.{listing-length}
@@ -46,6 +45,9 @@ unfolding code rightX rightY tail digit
 edgeKey n e = 4 * code n (rightX (tail e) (digit e)) (rightY (tail e) (digit e)) + digit e
 
 module _ (n : ℕ) (nums : List ℕ) (small : n ≤ 8) where
+  abbrev m : ℕ → ℕ → ℕ
+  m = regionAt n nums
+
   pub key-below : (e : ℕ) → edgeKey n e < 4 * 4 ^ n
   unfolding edgeKey
   key-below e = omega (arith, code-below n (rightX (tail e) (digit e)) (rightY (tail e) (digit e)), digit-below-four e)
@@ -53,36 +55,36 @@ module _ (n : ℕ) (nums : List ℕ) (small : n ≤ 8) where
   parts : (c d a b : ℕ) → c < 4 → d < 4 → 4 * a + c ≡ 4 * b + d → (a ≡ b) × (c ≡ d)
   parts c d a b h k e = (omega arith, omega arith)
 
-  within : (r e : ℕ) → Edge (regionAt n nums) r e → (rightX (tail e) (digit e) < 2 ^ n) × (rightY (tail e) (digit e) < 2 ^ n)
+  within : (r e : ℕ) → Edge m r e → (rightX (tail e) (digit e) < 2 ^ n) × (rightY (tail e) (digit e) < 2 ^ n)
   within r e h =
-      let s : RightOf (regionAt n nums) r e (rightX (tail e) (digit e)) (rightY (tail e) (digit e)) = edge-is-side (regionAt n nums) (margin n nums small) r e h in
+      let s : RightOf m r e (rightX (tail e) (digit e)) (rightY (tail e) (digit e)) = edge-is-side m (margin n nums small) r e h in
       let p : Pixel n nums (suc (rightX (tail e) (digit e))) (suc (rightY (tail e) (digit e))) r = pixel-at n nums (suc (rightX (tail e) (digit e))) (suc (rightY (tail e) (digit e))) r (h .a-region) (s .in-region) in
       (omega (arith, p .from-x, p .x-below), omega (arith, p .from-y, p .y-below))
 
-  pub key-injective : (r s a b : ℕ) → Edge (regionAt n nums) r a → Edge (regionAt n nums) s b → edgeKey n a ≡ edgeKey n b → a ≡ b
+  pub key-injective : (r s a b : ℕ) → Edge m r a → Edge m s b → edgeKey n a ≡ edgeKey n b → a ≡ b
   unfolding edgeKey
   key-injective r s a b h k e =
       let ab = parts (digit a) (digit b) (code n (rightX (tail a) (digit a)) (rightY (tail a) (digit a))) (code n (rightX (tail b) (digit b)) (rightY (tail b) (digit b)))
-        (digit-below-four a) (digit-below-four b) e in
+      (digit-below-four a) (digit-below-four b) e in
       let wa = within r a h in
       let wb = within s b k in
       let xy = code-injective n (rightX (tail a) (digit a)) (rightY (tail a) (digit a)) (rightX (tail b) (digit b)) (rightY (tail b) (digit b)) (wa .0) (wa .1) (wb .0) (wb .1) (ab .0) in
-      edge-is-side (regionAt n nums) (margin n nums small) r a h .the-side
+      edge-is-side m (margin n nums small) r a h .the-side
       ∙ ap₂ (λ x y. sideOf x y (digit a)) (xy .0) (xy .1) ∙ ap (sideOf (rightX (tail b) (digit b)) (rightY (tail b) (digit b))) (ab .1)
-      ∙ sym (edge-is-side (regionAt n nums) (margin n nums small) s b k .the-side)
+      ∙ sym (edge-is-side m (margin n nums small) s b k .the-side)
 
   -- All listed edges, cycle after cycle.
   module _ (regions : ℕ) where
     start : (c : ℕ) → In c (startCodes n nums regions) → StartAt n nums c
     start c i = let h = in-start-codes n nums regions c .0 i in start-says n nums small c (h .0) (h .2)
 
-    on-edge : (c : ℕ) → In c (startCodes n nums regions) → (a : ℕ) → In a (cycle n nums c) → Edge (regionAt n nums) (suc (getD nums c 0)) a
+    on-edge : (c : ℕ) → In c (startCodes n nums regions) → (a : ℕ) → In a (cycle n nums c) → Edge m (suc (getD nums c 0)) a
     unfolding cycle
-    on-edge c i a k = ring (regionAt n nums) (margin n nums small) (suc (getD nums c 0)) (northSide n c) (start c i .north) .edges a k
+    on-edge c i a k = ring m (margin n nums small) (suc (getD nums c 0)) (northSide n c) (start c i .north) .edges a k
 
     once : (c : ℕ) → In c (startCodes n nums regions) → Distinct (cycle n nums c)
     unfolding cycle
-    once c i = ring (regionAt n nums) (margin n nums small) (suc (getD nums c 0)) (northSide n c) (start c i .north) .once
+    once c i = ring m (margin n nums small) (suc (getD nums c 0)) (northSide n c) (start c i .north) .once
 
     pub all-edges-distinct : Distinct (flatMap (cycle n nums) (startCodes n nums regions))
     all-edges-distinct =
@@ -98,10 +100,10 @@ module _ (n : ℕ) (nums : List ℕ) (small : n ≤ 8) where
         same a b (c, i, p) (d, j, q) e = key-injective (suc (getD nums c 0)) (suc (getD nums d 0)) a b (on-edge c i a p) (on-edge d j b q) e
 
   -- A single cycle.
-  pub cycle-fits : (r e : ℕ) → Edge (regionAt n nums) r e → length (cycleFrom (regionAt n nums) e) ≤ 4 * 4 ^ n
+  pub cycle-fits : (r e : ℕ) → Edge m r e → length (cycleFrom m e) ≤ 4 * 4 ^ n
   cycle-fits r e h =
-      let g : Ring (regionAt n nums) r e = ring (regionAt n nums) (margin n nums small) r e h in
-      keyed-length (edgeKey n) (4 * 4 ^ n) (cycleFrom (regionAt n nums) e) (g .once) (λ a i. key-below a) (λ a b i j k. key-injective r r a b (g .edges a i) (g .edges b j) k)
+      let g : Ring m r e = ring m (margin n nums small) r e h in
+      keyed-length (edgeKey n) (4 * 4 ^ n) (cycleFrom m e) (g .once) (λ a i. key-below a) (λ a b i j k. key-injective r r a b (g .edges a i) (g .edges b j) k)
 
 corners-below : (f : ℕ → Cycle) (g : ℕ → List ℕ) → ((c : ℕ) → length (f c .points) ≤ length (g c)) → (cs : List ℕ) → length (allCorners (map f cs)) ≤ length (flatMap g cs)
 unfolding allCorners flatMap

@@ -2,7 +2,7 @@
 use mathlib.Core.Path.{_≡_, refl, sym, ap, ap₂, _∙_, subst, subst₂}
 use mathlib.Core.Logic.{_≢_}
 use mathlib.Core.List.{List, [], _∷_}
-use Prim.Native.Nat.{ℕ, zero, suc, _+_, _-_, _*_, _/_, _%_, _^_, _≤_, _<_}
+use Prim.Native.Nat.{ℕ, zero, suc, _/_, _%_, _≤_, _<_}
 use native.Mathlib.Nat.{not-suc-le-zero}
 use native.Mathlib.Omega.{arith}
 use lib.ListN.{length, getD}
@@ -19,7 +19,6 @@ use Rattle.grid.specs.Margins.{Margin}
 use Rattle.grid.specs.Steps.{Side, Edge, step}
 use Rattle.grid.specs.Cycles.{cycleFrom, northSide, cycle, codeRight}
 use Rattle.grid.specs.Undoing.{fits, no-digit, step-tail, step-edge}
-use Rattle.grid.specs.East.{edge-within}
 use Rattle.grid.specs.Returning.{Ring, ring}
 use Rattle.grid.specs.North.{side-small, north-digit, north-code, Eastward, eastward}
 use Rattle.grid.specs.Starting.{StartAt, margin}
@@ -80,10 +79,12 @@ module _ (m : ℕ → ℕ → ℕ) (margin : Margin m) (r : ℕ) where
   pub steps-walk : (k e : ℕ) → Edge m r e → Walk (tail e) (walk (step m) k e) (tail (iter (step m) k e))
   unfolding Walk walk iter
   steps-walk zero e h = refl
-  steps-walk (suc k) e h =
-      (refl, edge-room e h,
-      subst₂ (λ q close. Walk q (walk (step m) k (step m e)) close) (step-tail m margin r e h) (ap tail (iter-out (step m) k e))
-      (steps-walk k (step m e) (step-edge m margin r e h)))
+  steps-walk (suc k) e h = (
+    refl,
+    edge-room e h,
+    subst₂ (λ q close. Walk q (walk (step m) k (step m e)) close) (step-tail m margin r e h) (ap tail (iter-out (step m) k e))
+        (steps-walk k (step m e) (step-edge m margin r e h)),
+  )
 
   pub closed-walk : (e : ℕ) → Edge m r e → Walk (tail e) (e ∷ others m e) (tail e)
   closed-walk e h =
@@ -104,8 +105,11 @@ unfolding move xOf yOf
 same-row p q s l = omega arith
 
 module _ (n : ℕ) (nums : List ℕ) (small : n ≤ 8) where
+  abbrev m : ℕ → ℕ → ℕ
+  m = regionAt n nums
+
   -- Two eastward edges one after the other: the code grows.
-  code-grows : (r e f : ℕ) → Edge (regionAt n nums) r e → Edge (regionAt n nums) r f → digit e ≡ 0 → digit f ≡ 0 → tail f ≡ head e → codeRight n e < codeRight n f
+  code-grows : (r e f : ℕ) → Edge m r e → Edge m r f → digit e ≡ 0 → digit f ≡ 0 → tail f ≡ head e → codeRight n e < codeRight n f
   unfolding codeRight head
   code-grows r e f h k x y t =
       let a : Eastward n nums small r e = eastward n nums small r e h x in
@@ -116,10 +120,9 @@ module _ (n : ℕ) (nums : List ℕ) (small : n ≤ 8) where
       subst (λ z. code n (xOf (tail e)) (yOf (tail e)) < code n (xOf (tail f)) z) ey (code-grows-in-x n (xOf (tail e)) (xOf (tail f)) (yOf (tail e)) ex (b .x-below))
 
   -- The edge before a start is not eastward, so the start is a corner.
-  pub start-turns : (c : ℕ) → StartAt n nums c → digit (lastOf (northSide n c) (others (regionAt n nums) (northSide n c))) ≢ digit (northSide n c)
+  pub start-turns : (c : ℕ) → StartAt n nums c → digit (lastOf (northSide n c) (others m (northSide n c))) ≢ digit (northSide n c)
   unfolding cycle
   start-turns c s t =
-      let m : ℕ → ℕ → ℕ = regionAt n nums in
       let r : ℕ = suc (getD nums c 0) in
       let e : ℕ = northSide n c in
       let z : ℕ = lastOf e (others m e) in
@@ -134,12 +137,12 @@ module _ (n : ℕ) (nums : List ℕ) (small : n ≤ 8) where
   -- first" (document 01, "Outlines"): they are the edges of the cycle.
   pub sides-of-corners : (c : ℕ) → StartAt n nums c → outline (corners (cycle n nums c)) ≡ cycle n nums c
   unfolding cycle
-  sides-of-corners c s = corners-walked (regionAt n nums) (margin n nums small) (suc (getD nums c 0)) (northSide n c) (s .north) (start-turns c s)
+  sides-of-corners c s = corners-walked m (margin n nums small) (suc (getD nums c 0)) (northSide n c) (s .north) (start-turns c s)
 
   -- The corners begin with the tail of the start.
   pub corners-from-start : (c : ℕ) → StartAt n nums c
-      → corners (cycle n nums c) ≡ tail (northSide n c) ∷ turns (digit (northSide n c)) (others (regionAt n nums) (northSide n c))
+      → corners (cycle n nums c) ≡ tail (northSide n c) ∷ turns (digit (northSide n c)) (others m (northSide n c))
   unfolding cycle corners
   corners-from-start c s =
-      ap corners (cycle-first (regionAt n nums) (northSide n c))
-      ∙ turns-turn (digit (lastOf (northSide n c) (others (regionAt n nums) (northSide n c)))) (northSide n c) (others (regionAt n nums) (northSide n c)) (start-turns c s)
+      ap corners (cycle-first m (northSide n c))
+      ∙ turns-turn (digit (lastOf (northSide n c) (others m (northSide n c)))) (northSide n c) (others m (northSide n c)) (start-turns c s)

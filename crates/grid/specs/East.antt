@@ -5,13 +5,13 @@ use Prim.Native.Nat.{ℕ, zero, suc, _+_, _-_, _*_, _/_, _%_, _≤_, _<_}
 use native.Mathlib.Nat.{eq-or-lt-of-le, not-suc-le-zero}
 use native.Mathlib.Decide.{ℕ-discrete}
 use native.Mathlib.Omega.{arith}
-use Rattle.lattice.specs.Directions.{xOf, yOf, move, rightOf, leftOf, opposite, tail, digit, head}
+use Rattle.lattice.specs.Directions.{xOf, yOf, move, opposite, tail, digit, head}
 use Rattle.orbits.specs.Orbits.{iter, Returns, stays}
 use Rattle.orbits.specs.Pigeon.{Least, None, search-below}
 use Rattle.grid.specs.Map.{around}
 use Rattle.grid.specs.Margins.{Margin}
 use Rattle.grid.specs.Steps.{Side, Edge, step}
-use Rattle.grid.specs.Undoing.{Arrived, Turned, back, fits, no-digit, digit-below-four, arrived, after, step-tail, step-digit, step-edge, back-step}
+use Rattle.grid.specs.Undoing.{back, fits, no-digit, digit-below-four, arrived, after, step-tail, step-digit, step-edge, back-step}
 
 -- Westward x falls; between two westward edges y falls or grows all the way.
 height : ℕ → ℕ → ℕ
@@ -109,5 +109,5 @@ module _ (m : ℕ → ℕ → ℕ) (margin : Margin m) (r : ℕ) where
         pick (inl w) = (w .i, w .below, w .holds)
         pick (inr n) =
             let l : weight (tail (iter (step m) (suc k) e)) (digit (iter (step m) (suc k) e)) < weight (tail e) (digit e) =
-              lower k (λ i h. all n i (eq-or-lt-of-le h)) in
+            lower k (λ i h. all n i (eq-or-lt-of-le h)) in
             let z : ⊥ = omega (arith, subst (λ x. weight (tail x) (digit x) < weight (tail e) (digit e)) (t .back) l) in absurd z

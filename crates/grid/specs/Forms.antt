@@ -1,32 +1,31 @@
 -- Each listed outline is a cycle form: its corners alternate between x and y, from an eastward step on.
 use mathlib.Core.Path.{_≡_, refl, sym, ap, ap₂, _∙_, subst}
-use mathlib.Core.Logic.{_≢_, _⊎_, inl, inr}
-use mathlib.Core.Bool.{Bool, true, false, not, _&&_, false≢true, true≢false}
+use mathlib.Core.Logic.{_≢_}
+use mathlib.Core.Bool.{Bool, true, false, not, false≢true}
 use mathlib.Core.List.{List, [], _∷_}
-use Prim.Native.Nat.{ℕ, zero, suc, _+_, _-_, _*_, _/_, _%_, _^_, _≤_, _<_}
+use Prim.Native.Nat.{ℕ, zero, suc, _+_, _-_, _*_, _%_, _^_, _≤_, _<_}
 use native.Mathlib.Decide.{ℕ-discrete}
 use native.Mathlib.Numerals.{add-one}
 use native.Mathlib.Omega.{arith}
 use lib.ListN.{length, getD}
-use lib.Dec.{ltb, eqb}
 use borrow.Author.Tests.{lt-ltb, eqb-true}
 use Rattle.sequences.specs.Powers.{pow4-mono}
 use Rattle.lattice.specs.Directions.{xOf, yOf, move, opposite, tail, digit, head}
-use Rattle.lattice.specs.Tests.{and-both, and-true-true, then-both, isEven, even-next}
+use Rattle.lattice.specs.Tests.{and-true-true, then-both, isEven, even-next}
 use Rattle.lattice.specs.Walks.{turns, lastOf, corners}
 use Rattle.lattice.specs.Straight.{far, Room, far-step, far-one, room-more}
 use Rattle.lattice.specs.Corners.{Walk, turns-on, turns-turn}
-use Rattle.lattice.specs.CycleForm.{inside, allInside, along, byTurns, eastward, steps, cycleForm, Parts, from-parts, AlongX, AlongY, along-x-says, along-y-says, says-along-x, says-along-y, says-inside}
+use Rattle.lattice.specs.CycleForm.{inside, allInside, along, byTurns, eastward, steps, cycleForm, Parts, from-parts, along-x-says, along-y-says, says-along-x, says-along-y, says-inside}
 use Rattle.orbits.specs.Members.{In, in-first, in-later}
 use Rattle.orbits.specs.Orbits.{walk}
 use Rattle.grid.specs.Map.{regionAt}
 use Rattle.grid.specs.Margins.{Margin}
 use Rattle.grid.specs.Steps.{Edge, step}
-use Rattle.grid.specs.Cycles.{cycleFrom, northSide, cycle}
+use Rattle.grid.specs.Cycles.{northSide, cycle}
 use Rattle.grid.specs.Listing.{startCodes, listing, pointsAt}
 use Rattle.grid.specs.Undoing.{no-digit, digit-below-four, step-edge}
 use Rattle.grid.specs.East.{no-reverse, edge-within}
-use Rattle.grid.specs.Returning.{Ring, ring}
+use Rattle.grid.specs.Returning.{ring}
 use Rattle.grid.specs.North.{north-digit}
 use Rattle.grid.specs.Starting.{StartAt, margin}
 use Rattle.grid.specs.Closing.{others, cycle-first, Last, last-edge, closed-walk, start-turns, corners-from-start}
@@ -212,9 +211,12 @@ module _ (n : ℕ) (nums : List ℕ) (small : n ≤ 8) (c : ℕ) (s : StartAt n 
   unfolding Walk head
   behind =
       let w = closed-walk m g r e (s .north) in
-      let k = others-walk m g r e (s .north) in
-      (omega arith, w .1, subst (λ q. Walk q es (tail e)) (sym (far-one (digit e) (tail e) (w .1))) (w .2),
-      subst (Forward e) (sym (k .1)) (steps-forward m g r (k .0) e (s .north)))
+      let k = others-walk m g r e (s .north) in (
+        omega arith,
+        w .1,
+        subst (λ q. Walk q es (tail e)) (sym (far-one (digit e) (tail e) (w .1))) (w .2),
+        subst (Forward e) (sym (k .1)) (steps-forward m g r (k .0) e (s .north)),
+      )
 
   -- The last edge goes along y: neither east, as no start comes after an eastward edge, nor west, as no step turns back.
   last-odd : isEven (digit (lastOf e es)) ≡ false

@@ -2,15 +2,14 @@
 use mathlib.Core.Path.{_≡_, refl, sym, ap, _∙_, subst}
 use mathlib.Core.Logic.{_≢_, _⊎_, inl, inr, _↔_}
 use mathlib.Core.Bool.{Bool, true, false, false≢true}
-use mathlib.Core.List.{List, [], _∷_, _++_, flatMap}
-use Prim.Native.Nat.{ℕ, zero, suc, _+_, _-_, _^_, _≤_, _<_}
+use mathlib.Core.List.{List, [], _∷_}
+use Prim.Native.Nat.{ℕ, _^_, _≤_, _<_}
 use native.Mathlib.Decide.{ℕ-discrete}
 use native.Mathlib.Omega.{arith}
 use lib.ListN.{length, getD}
-use lib.Dec.{eqb}
 use borrow.Author.Tests.{eq-eqb, ne-eqb}
 use Rattle.sequences.specs.Ranges.{range, length-range, range-at}
-use Rattle.orbits.specs.Members.{In, Ordered, Distinct, in-first, in-later, in-cases, in-none, in-flat, flat-in, ordered-cons, ordered-rest, ordered-first, ordered-flat, ordered-weaken, distinct-length}
+use Rattle.orbits.specs.Members.{In, Ordered, Distinct, in-later, in-cases, in-none, in-flat, flat-in, ordered-cons, ordered-rest, ordered-first, ordered-flat, ordered-weaken, distinct-length}
 use Rattle.grid.specs.Cycles.{isStart}
 use Rattle.grid.specs.Listing.{keep, startsIn, starts, startCodes}
 

@@ -1,24 +1,20 @@
 -- What is listed: each side between a region and what is not that region, once, and all closed outlines of the rule of steps.
-use mathlib.Core.Path.{_≡_, refl, sym, ap, ap₂, _∙_, subst, subst₂}
-use mathlib.Core.Logic.{_≢_, _⊎_, inl, inr, _↔_}
-use mathlib.Core.Bool.{true}
+use mathlib.Core.Path.{_≡_, refl, sym, ap, _∙_, subst, subst₂}
+use mathlib.Core.Logic.{_⊎_, _↔_}
 use mathlib.Core.List.{List, [], _∷_, map}
-use Prim.Native.Nat.{ℕ, zero, suc, _+_, _-_, _^_, _≤_, _<_}
+use Prim.Native.Nat.{ℕ, zero, suc, _^_, _≤_, _<_}
 use native.Mathlib.Omega.{arith}
 use lib.ListN.{length, getD, length-map}
-use Rattle.location.specs.Codes.{code}
-use Rattle.location.specs.Interleaving.{code-below}
-use Rattle.lattice.specs.Directions.{tail, digit}
 use Rattle.lattice.specs.Walks.{outline, corners}
 use Rattle.orbits.specs.Members.{In, Distinct, one-place}
 use Rattle.grid.specs.Map.{regionAt}
-use Rattle.grid.specs.Steps.{Edge, step}
-use Rattle.grid.specs.Cycles.{cycleFrom, northSide, cycle, isStart}
+use Rattle.grid.specs.Steps.{Edge}
+use Rattle.grid.specs.Cycles.{cycleFrom, northSide, cycle}
 use Rattle.grid.specs.Listing.{startCodes, Cycle, cycleAt, listing, owners, pointsAt}
-use Rattle.grid.specs.Returning.{Ring, ring, same-cycle, same-region}
+use Rattle.grid.specs.Returning.{Ring, ring, same-cycle}
 use Rattle.grid.specs.Starting.{StartAt, Started, margin, start-says, says-start, some-start, one-start}
 use Rattle.grid.specs.Closing.{sides-of-corners}
-use Rattle.grid.specs.Keeping.{in-start-codes, in-order, Before, start-codes-distinct}
+use Rattle.grid.specs.Keeping.{in-start-codes, in-order, start-codes-distinct}
 
 -- The listing, cycle by cycle.
 module _ (n : ℕ) (nums : List ℕ) where
@@ -141,7 +137,7 @@ module _ (n : ℕ) (nums : List ℕ) (regions : ℕ) (small : n ≤ 8) where
         let s : Started n nums small (suc r) e = some-start n nums small (suc r) e h in
         let c : ℕ = s .start in
         let i : In c (startCodes n nums regions) =
-          in-start-codes n nums regions c .1 (s .starts .inside, known c (s .starts .inside), says-start n nums small c (s .starts)) in
+        in-start-codes n nums regions c .1 (s .starts .inside, known c (s .starts .inside), says-start n nums small c (s .starts)) in
         record {
           cycle-number = i .0;
           listed = omega (arith, listing-length n nums regions, i .1);
@@ -167,8 +163,8 @@ module _ (n : ℕ) (nums : List ℕ) (regions : ℕ) (small : n ≤ 8) where
               inside = s .1;
               side = s .2;
               only = λ j i g b q.
-                let same : j ≡ k = same-listed j k e g (f .listed) (i, b, q) s in
-                (same, one-place (sides k) d i (s .0) (subst (λ x. i < length (sides x)) same b) (s .1) (subst (λ x. getD (sides x) i 0 ≡ e) same q ∙ sym (s .2)));
+                  let same : j ≡ k = same-listed j k e g (f .listed) (i, b, q) s in
+                  (same, one-place (sides k) d i (s .0) (subst (λ x. i < length (sides x)) same b) (s .1) (subst (λ x. getD (sides x) i 0 ≡ e) same q ∙ sym (s .2)));
             }
 
     pub each-side-once : SidesOnce m l
@@ -185,9 +181,12 @@ module _ (n : ℕ) (nums : List ℕ) (regions : ℕ) (small : n ≤ 8) where
             let c : ℕ = start k in
             let o : sides k ≡ cycle n nums c = outline-at k (f .listed) in
             let same : (a : ℕ) → In a (cycle n nums c) ↔ In a (cycleFrom m e) =
-              same-cycle m (margin n nums small) (suc (getD nums c 0)) (northSide n c) e (start-at k (f .listed) .north) (f .stands) in
-            (k, f .listed, owner-at n nums regions k (below k (f .listed)) ∙ f .owned,
-            λ a. (λ x. subst (In a) (sym o) (same a .1 x), λ x. same a .0 (subst (In a) o x)))
+            same-cycle m (margin n nums small) (suc (getD nums c 0)) (northSide n c) e (start-at k (f .listed) .north) (f .stands) in (
+              k,
+              f .listed,
+              owner-at n nums regions k (below k (f .listed)) ∙ f .owned,
+              λ a. (λ x. subst (In a) (sym o) (same a .1 x), λ x. same a .0 (subst (In a) o x)),
+            )
 
     pub all-outlines-listed : OutlinesListed n nums l (startCodes n nums regions)
     all-outlines-listed = record {

@@ -1,17 +1,17 @@
 -- North sides of pixels: the eastward edges, one for one, and the location codes of the pixels on their right.
-use mathlib.Core.Path.{_≡_, refl, sym, ap, ap₂, _∙_, subst}
+use mathlib.Core.Path.{_≡_, sym, ap, ap₂, _∙_, subst}
 use mathlib.Core.Logic.{_≢_, _↔_}
 use mathlib.Core.List.{List}
-use Prim.Native.Nat.{ℕ, zero, suc, _+_, _-_, _*_, _/_, _%_, _^_, _≤_, _<_}
+use Prim.Native.Nat.{ℕ, suc, _^_, _≤_, _<_}
 use native.Mathlib.Omega.{arith}
 use lib.ListN.{getD}
 use Rattle.sequences.specs.Powers.{pow2-mono}
 use Rattle.location.specs.Codes.{code, column, row}
-use Rattle.location.specs.Interleaving.{code-below, column-below, row-below, column-of-code, row-of-code, code-of-coordinates}
+use Rattle.location.specs.Interleaving.{code-below, column-below, column-of-code, row-of-code, code-of-coordinates}
 use Rattle.lattice.specs.Directions.{point, xOf, yOf, leftOf, edge, tail, digit}
 use Rattle.grid.specs.Map.{regionAt, around}
-use Rattle.grid.specs.Margins.{Margin, Pixel, pixel-at, region-of-code}
-use Rattle.grid.specs.Steps.{Side, Edge}
+use Rattle.grid.specs.Margins.{Pixel, pixel-at, region-of-code}
+use Rattle.grid.specs.Steps.{Edge}
 use Rattle.grid.specs.Cycles.{cornerOf, northSide, codeRight}
 use Rattle.grid.specs.Undoing.{digit-below-four}
 

@@ -1,27 +1,26 @@
 -- The first cycle of a region is its outer one: it starts at the north side of the region's least pixel.
-use mathlib.Core.Path.{_≡_, refl, sym, ap, ap₂, _∙_, subst}
+use mathlib.Core.Path.{_≡_, refl, sym, ap, _∙_, subst}
 use mathlib.Core.Logic.{_≢_, _⊎_, inl, inr}
-use mathlib.Core.List.{List, [], _∷_}
-use Prim.Native.Nat.{ℕ, zero, suc, _+_, _-_, _^_, _≤_, _<_}
+use mathlib.Core.List.{List}
+use Prim.Native.Nat.{ℕ, zero, suc, _^_, _≤_, _<_}
 use native.Mathlib.Decide.{ℕ-discrete, decLt}
 use native.Mathlib.Omega.{arith}
 use lib.ListN.{length, getD}
 use Rattle.location.specs.Codes.{code, column, row}
 use Rattle.location.specs.Interleaving.{code-grows-in-y, column-below, row-below, code-of-coordinates}
-use Rattle.lattice.specs.Directions.{digit}
 use Rattle.lattice.specs.Walks.{outline}
 use Rattle.orbits.specs.Pigeon.{Least, the-least}
 use Rattle.orbits.specs.Members.{In}
-use Rattle.grid.specs.Map.{regionAt, around}
+use Rattle.grid.specs.Map.{regionAt}
 use Rattle.grid.specs.Margins.{region-inside}
 use Rattle.grid.specs.Steps.{Edge}
-use Rattle.grid.specs.Cycles.{cornerOf, northSide, cycle, codeRight}
+use Rattle.grid.specs.Cycles.{northSide, cycle, codeRight}
 use Rattle.grid.specs.Listing.{startCodes, Cycle, listing, owners, pointsAt}
 use Rattle.grid.specs.Returning.{ring}
 use Rattle.grid.specs.North.{corner-north, north-edge, Eastward, eastward}
 use Rattle.grid.specs.Starting.{StartAt, margin, says-start}
 use Rattle.grid.specs.Closing.{cycle-first}
-use Rattle.grid.specs.Keeping.{in-start-codes, in-order}
+use Rattle.grid.specs.Keeping.{in-start-codes}
 use Rattle.grid.specs.Listed.{listing-length, owner-at, start-at, outline-at, order-at}
 
 -- The pixel with the code c is the one with the least code of its region.
@@ -31,21 +30,24 @@ pub record LeastPixel (n : ℕ) (nums : List ℕ) (c : ℕ) : Type 0 where
 
 pub least-pixel : (n : ℕ) (nums : List ℕ) (d : ℕ) → d < 4 ^ n → (c : ℕ) × (getD nums c 0 ≡ getD nums d 0) × LeastPixel n nums c
 least-pixel n nums d h =
-    let w : Least (λ c. getD nums c 0 ≡ getD nums d 0) (suc d) = the-least (λ c. getD nums c 0 ≡ getD nums d 0) (λ c. ℕ-discrete (getD nums c 0) (getD nums d 0)) d refl in
-    (w .i, w .holds, record {
-      inside = omega (arith, w .below);
-      least = λ b l e. elim (decLt b (w .i)) [
-        | yes s ↦ absurd (w .least b s (e ∙ w .holds))
-        | no s ↦ omega arith
-      ];
-    })
+    let w : Least (λ c. getD nums c 0 ≡ getD nums d 0) (suc d) = the-least (λ c. getD nums c 0 ≡ getD nums d 0) (λ c. ℕ-discrete (getD nums c 0) (getD nums d 0)) d refl in (
+      w .i,
+      w .holds,
+      record {
+        inside = omega (arith, w .below);
+        least = λ b l e. elim (decLt b (w .i)) [
+          | yes s ↦ absurd (w .least b s (e ∙ w .holds))
+          | no s ↦ omega arith
+        ];
+      },
+    )
 
 module _ (n : ℕ) (nums : List ℕ) where
   -- "no pixel straight north of that one up to the image's edge is in the region"
   pub nothing-north : (c : ℕ) → LeastPixel n nums c → (y : ℕ) → y < row n c → getD nums (code n (column n c) y) 0 ≢ getD nums c 0
   nothing-north c p y h e =
       let less : code n (column n c) y < c =
-        subst (λ z. code n (column n c) y < z) (code-of-coordinates n c (p .inside)) (code-grows-in-y n (column n c) y (row n c) h (row-below n c)) in
+      subst (λ z. code n (column n c) y < z) (code-of-coordinates n c (p .inside)) (code-grows-in-y n (column n c) y (row n c) h (row-below n c)) in
       absurd (omega (arith, p .least (code n (column n c) y) (omega (arith, p .inside)) e))
 
   north-apart : (c : ℕ) → LeastPixel n nums c → (Y : ℕ) → Y ≡ row n c → regionAt n nums (suc (column n c)) Y ≢ suc (getD nums c 0)
@@ -53,7 +55,7 @@ module _ (n : ℕ) (nums : List ℕ) where
   north-apart c p zero q e = let z : ⊥ = omega arith in absurd z
   north-apart c p (suc y) q e =
       let at : regionAt n nums (suc (column n c)) (suc y) ≡ suc (getD nums (code n (column n c) y) 0) =
-        region-inside n nums (column n c) y (column-below n c) (omega (arith, row-below n c)) in
+      region-inside n nums (column n c) y (column-below n c) (omega (arith, row-below n c)) in
       nothing-north c p y (omega arith) (omega (arith, at, e))
 
 module _ (n : ℕ) (nums : List ℕ) (small : n ≤ 8) where
@@ -62,14 +64,14 @@ module _ (n : ℕ) (nums : List ℕ) (small : n ≤ 8) where
   unfolding cycle
   least-starts c p =
       let north : Edge (regionAt n nums) (suc (getD nums c 0)) (northSide n c) =
-        north-edge n nums small c (p .inside) .1 (λ e. north-apart n nums c p (row n c) refl (sym (corner-north n nums small c) ∙ e)) in
+      north-edge n nums small c (p .inside) .1 (λ e. north-apart n nums c p (row n c) refl (sym (corner-north n nums small c) ∙ e)) in
       record {
         inside = p .inside;
         north = north;
         least = λ a i z.
-          let w : Eastward n nums small (suc (getD nums c 0)) a =
+            let w : Eastward n nums small (suc (getD nums c 0)) a =
             eastward n nums small (suc (getD nums c 0)) a (ring (regionAt n nums) (margin n nums small) (suc (getD nums c 0)) (northSide n c) north .edges a i) z in
-          p .least (codeRight n a) (w .below) (omega (arith, w .number));
+            p .least (codeRight n a) (w .below) (omega (arith, w .number));
       }
 
 -- The cycle k of a list is the first of its owner, and the outer one: c is the least pixel of the owner, the outline begins with

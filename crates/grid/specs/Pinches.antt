@@ -1,13 +1,13 @@
 -- Where an outline meets itself: the rule of steps turns right there.
-use mathlib.Core.Path.{_≡_, refl, sym, ap, ap₂, _∙_, subst}
+use mathlib.Core.Path.{_≡_, refl, sym, ap₂, _∙_, subst}
 use mathlib.Core.Logic.{_≢_}
 use Prim.Native.Nat.{ℕ, zero, suc, _<_}
 use native.Mathlib.Omega.{arith}
-use Rattle.lattice.specs.Directions.{move, rightOf, leftOf, opposite, edge, tail, digit, head}
+use Rattle.lattice.specs.Directions.{move, rightOf, leftOf, opposite, tail, digit, head}
 use Rattle.grid.specs.Map.{around}
 use Rattle.grid.specs.Margins.{Margin}
-use Rattle.grid.specs.Steps.{Side, Edge, turn, step}
-use Rattle.grid.specs.Undoing.{Arrived, Quarter, quarter, move-back, go-right, no-digit, digit-below-four, arrived, step-digit}
+use Rattle.grid.specs.Steps.{Edge, step}
+use Rattle.grid.specs.Undoing.{Arrived, Quarter, quarter, move-back, go-right, no-digit, arrived, step-digit}
 
 module _ (m : ℕ → ℕ → ℕ) (margin : Margin m) (r : ℕ) where
   -- At the head of an edge where of the four pixels around two that lie across are in the region and the other two are not.

@@ -1,15 +1,13 @@
 -- Every edge comes again: the rule of steps is a bijection on the edges of a region, and two cycles are equal or apart.
-use mathlib.Core.Path.{_≡_, refl, sym, ap, _∙_, subst}
-use mathlib.Core.Logic.{_≢_, _⊎_, inl, inr, _↔_}
-use mathlib.Core.List.{List, [], _∷_}
-use Prim.Native.Nat.{ℕ, zero, suc, _+_, _-_, _≤_, _<_}
+use mathlib.Core.Path.{_≡_, sym, ap, _∙_, subst}
+use mathlib.Core.Logic.{_⊎_, inl, inr, _↔_}
+use mathlib.Core.List.{List}
+use Prim.Native.Nat.{ℕ, zero, suc, _≤_, _<_}
 use native.Mathlib.Nat.{not-suc-le-zero}
 use native.Mathlib.Omega.{arith}
 use lib.ListN.{length, getD}
-use Rattle.lattice.specs.Directions.{tail, digit}
 use Rattle.orbits.specs.Members.{In, Distinct}
-use Rattle.orbits.specs.Orbits.{iter, walk, length-walk, walk-at, orbit, On, Returns, first-return, distinct, on-list, orbit-walk, on-trans, on-sym, equal-or-apart}
-use Rattle.grid.specs.Map.{around}
+use Rattle.orbits.specs.Orbits.{iter, walk, length-walk, walk-at, On, Returns, first-return, distinct, on-list, orbit-walk, on-trans, on-sym, equal-or-apart}
 use Rattle.grid.specs.Margins.{Margin}
 use Rattle.grid.specs.Steps.{Edge, step}
 use Rattle.grid.specs.Cycles.{cycleFrom}
@@ -67,11 +65,11 @@ module _ (m : ℕ → ℕ → ℕ) (margin : Margin m) (r : ℕ) where
             edges = λ a x. subst (Edge m r) (sym (at (x .0) (omega (arith, x .1))) ∙ x .2) (iterate-edge m margin r e h (x .0));
             holds = λ a. (
               λ x. let y : (i : ℕ) × (i < k) × (getD (walk (step m) k e) i 0 ≡ a) = o a .0 x in
-                (y .0, omega (arith, y .1), ap (λ (z : List ℕ). getD z (y .0) 0) w ∙ y .2),
+                  (y .0, omega (arith, y .1), ap (λ (z : List ℕ). getD z (y .0) 0) w ∙ y .2),
               λ x. o a .1 (x .0, omega (arith, x .1), sym (ap (λ (z : List ℕ). getD z (x .0) 0) w) ∙ x .2),
             );
             once = λ i j a b c. distinct (step m) (back m) (Edge m r) 526336 bound closed undo e k h t i j a (omega arith)
-              (sym (at i (omega arith)) ∙ c ∙ at j (omega arith));
+                (sym (at i (omega arith)) ∙ c ∙ at j (omega arith));
           }
 
   -- The rule of steps is a bijection on the edges of the region: `back` is its inverse on both sides.

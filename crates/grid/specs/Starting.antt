@@ -1,30 +1,26 @@
 -- Where a cycle starts: every cycle has exactly one start, and its start is a corner.
-use mathlib.Core.Path.{_≡_, refl, sym, ap, ap₂, _∙_, subst}
-use mathlib.Core.Logic.{_≢_, _⊎_, inl, inr, _↔_}
-use mathlib.Core.Bool.{Bool, true, false, false≢true}
+use mathlib.Core.Path.{_≡_, refl, sym, ap, _∙_, subst}
+use mathlib.Core.Logic.{_≢_, _⊎_, inl, inr}
+use mathlib.Core.Bool.{true, false, false≢true}
 use mathlib.Core.List.{List, [], _∷_}
-use Prim.Native.Nat.{ℕ, zero, suc, _+_, _-_, _*_, _/_, _%_, _^_, _≤_, _<_}
-use native.Mathlib.Nat.{le-antisymm, not-suc-le-zero}
+use Prim.Native.Nat.{ℕ, suc, _^_, _≤_, _<_}
+use native.Mathlib.Nat.{le-antisymm}
 use native.Mathlib.Decide.{ℕ-discrete, decLe}
 use native.Mathlib.Omega.{arith}
-use lib.ListN.{length, getD}
-use lib.Dec.{eqb, leb}
+use lib.ListN.{getD}
 use borrow.Author.Tests.{eq-eqb, ne-eqb, le-leb, lt-leb}
-use Rattle.location.specs.Codes.{code}
-use Rattle.location.specs.Interleaving.{code-grows-in-x}
-use Rattle.lattice.specs.Directions.{xOf, yOf, move, tail, digit, head}
-use Rattle.lattice.specs.Walks.{lastOf}
+use Rattle.lattice.specs.Directions.{digit}
 use Rattle.orbits.specs.Members.{In, in-first, in-later, in-cases, in-none}
-use Rattle.orbits.specs.Orbits.{iter, orbit, orbitF, On, Returns, walk, length-walk}
+use Rattle.orbits.specs.Orbits.{On, Returns}
 use Rattle.orbits.specs.Starts.{Start, a-start}
 use Rattle.grid.specs.Map.{regionAt, around}
 use Rattle.grid.specs.Margins.{Margin, region-margin}
 use Rattle.grid.specs.Steps.{Edge, step}
 use Rattle.grid.specs.Cycles.{cycleFrom, cornerOf, northSide, cycle, codeRight, leastOf, isStart}
-use Rattle.grid.specs.Undoing.{back, step-tail, step-edge, back-step}
-use Rattle.grid.specs.East.{has-east, edge-bound, iterate-edge}
-use Rattle.grid.specs.Returning.{Ring, ring, edge-returns, met-back, met-then, same-region}
-use Rattle.grid.specs.North.{side-small, north-tail, north-digit, north-code, corner-here, north-edge, Eastward, eastward}
+use Rattle.grid.specs.Undoing.{back, step-edge, back-step}
+use Rattle.grid.specs.East.{has-east, edge-bound}
+use Rattle.grid.specs.Returning.{Ring, ring, edge-returns, met-back, met-then}
+use Rattle.grid.specs.North.{north-digit, north-code, corner-here, north-edge, Eastward, eastward}
 
 -- The test, in words about each edge.
 module _ (n c : ℕ) where
@@ -71,22 +67,25 @@ pub record StartAt (n : ℕ) (nums : List ℕ) (c : ℕ) : Type 0 where
   pub least : (e : ℕ) → In e (cycle n nums c) → digit e ≡ 0 → c ≤ codeRight n e
 
 module _ (n : ℕ) (nums : List ℕ) (small : n ≤ 8) where
-  pub margin : Margin (regionAt n nums)
+  abbrev m : ℕ → ℕ → ℕ
+  m = regionAt n nums
+
+  pub margin : Margin m
   margin = region-margin n nums small
 
-  no-start : (c : ℕ) → around (regionAt n nums) (cornerOf n c) 1 ≡ around (regionAt n nums) (cornerOf n c) 0 → isStart n nums c ≡ false
+  no-start : (c : ℕ) → around m (cornerOf n c) 1 ≡ around m (cornerOf n c) 0 → isStart n nums c ≡ false
   unfolding isStart
-  no-start c h = rw (eq-eqb (around (regionAt n nums) (cornerOf n c) 1) (around (regionAt n nums) (cornerOf n c) 0) h, isStart)
+  no-start c h = rw (eq-eqb (around m (cornerOf n c) 1) (around m (cornerOf n c) 0) h, isStart)
 
-  a-north : (c : ℕ) → around (regionAt n nums) (cornerOf n c) 1 ≢ around (regionAt n nums) (cornerOf n c) 0 → isStart n nums c ≡ leastOf n c (cycle n nums c)
+  a-north : (c : ℕ) → around m (cornerOf n c) 1 ≢ around m (cornerOf n c) 0 → isStart n nums c ≡ leastOf n c (cycle n nums c)
   unfolding isStart
-  a-north c h = rw (ne-eqb (around (regionAt n nums) (cornerOf n c) 1) (around (regionAt n nums) (cornerOf n c) 0) h, isStart)
+  a-north c h = rw (ne-eqb (around m (cornerOf n c) 1) (around m (cornerOf n c) 0) h, isStart)
 
   -- The test holds exactly there.
   pub start-says : (c : ℕ) → c < 4 ^ n → isStart n nums c ≡ true → StartAt n nums c
-  start-says c h t = pick (ℕ-discrete (around (regionAt n nums) (cornerOf n c) 1) (around (regionAt n nums) (cornerOf n c) 0))
+  start-says c h t = pick (ℕ-discrete (around m (cornerOf n c) 1) (around m (cornerOf n c) 0))
     where
-      pick : Dec (around (regionAt n nums) (cornerOf n c) 1 ≡ around (regionAt n nums) (cornerOf n c) 0) → StartAt n nums c
+      pick : Dec (around m (cornerOf n c) 1 ≡ around m (cornerOf n c) 0) → StartAt n nums c
       pick (yes e) = absurd (false≢true (sym (no-start c e) ∙ t))
       pick (no e) = record {
         inside = h;
@@ -106,35 +105,35 @@ module _ (n : ℕ) (nums : List ℕ) (small : n ≤ 8) where
     pub number : suc (getD nums start 0) ≡ r
     pub on-cycle : In e (cycle n nums start)
 
-  key-injective : (r a b : ℕ) → Edge (regionAt n nums) r a → Edge (regionAt n nums) r b → digit a ≡ 0 → digit b ≡ 0 → codeRight n a ≡ codeRight n b → a ≡ b
+  key-injective : (r a b : ℕ) → Edge m r a → Edge m r b → digit a ≡ 0 → digit b ≡ 0 → codeRight n a ≡ codeRight n b → a ≡ b
   key-injective r a b h k x y e = eastward n nums small r a h x .north ∙ ap (northSide n) e ∙ sym (eastward n nums small r b k y .north)
 
-  pub some-start : (r e : ℕ) → Edge (regionAt n nums) r e → Started r e
+  pub some-start : (r e : ℕ) → Edge m r e → Started r e
   unfolding cycle
-  some-start r e h = from (edge-returns (regionAt n nums) margin r e h)
+  some-start r e h = from (edge-returns m margin r e h)
     where
-      made : (s : ℕ) → On (step (regionAt n nums)) e s → Start (step (regionAt n nums)) (λ a. digit a ≡ 0) (codeRight n) s → Started r e
+      made : (s : ℕ) → On (step m) e s → Start (step m) (λ a. digit a ≡ 0) (codeRight n) s → Started r e
       made s o t =
-          let g : Edge (regionAt n nums) r s = ring (regionAt n nums) margin r e h .edges s (ring (regionAt n nums) margin r e h .holds s .0 o) in
+          let g : Edge m r s = ring m margin r e h .edges s (ring m margin r e h .holds s .0 o) in
           let w : Eastward n nums small r s = eastward n nums small r s g (t .marked) in
-          let q : Ring (regionAt n nums) r s = ring (regionAt n nums) margin r s g in
+          let q : Ring m r s = ring m margin r s g in
           record {
             start = codeRight n s;
             starts = record {
               inside = w .below;
-              north = subst (λ x. Edge (regionAt n nums) x (northSide n (codeRight n s))) (sym (w .number)) (subst (Edge (regionAt n nums) r) (w .north) g);
-              least = λ a i z. t .least a (q .holds a .1 (subst (λ x. In a (cycleFrom (regionAt n nums) x)) (sym (w .north)) i)) z;
+              north = subst (λ x. Edge m x (northSide n (codeRight n s))) (sym (w .number)) (subst (Edge m r) (w .north) g);
+              least = λ a i z. t .least a (q .holds a .1 (subst (λ x. In a (cycleFrom m x)) (sym (w .north)) i)) z;
             };
             number = w .number;
-            on-cycle = subst (λ x. In e (cycleFrom (regionAt n nums) x)) (w .north) (q .holds e .0 (met-back (regionAt n nums) margin r e s h o));
+            on-cycle = subst (λ x. In e (cycleFrom m x)) (w .north) (q .holds e .0 (met-back m margin r e s h o));
           }
 
-      from : (k : ℕ) × (k ≤ 526336) × Returns (step (regionAt n nums)) e k → Started r e
+      from : (k : ℕ) × (k ≤ 526336) × Returns (step m) e k → Started r e
       from (k, l, t) =
-          let s = a-start (step (regionAt n nums)) (back (regionAt n nums)) (Edge (regionAt n nums) r) 526336
-            (λ x g. edge-bound (regionAt n nums) margin r x g) (λ x g. step-edge (regionAt n nums) margin r x g) (λ x g. back-step (regionAt n nums) margin r x g)
-            (λ a. digit a ≡ 0) (λ a. ℕ-discrete (digit a) 0) (codeRight n) (λ a b x y p q i. key-injective r a b x y p q i)
-            (λ x j g t. has-east (regionAt n nums) margin r x g j t) e k h t in
+          let s = a-start (step m) (back m) (Edge m r) 526336
+          (λ x g. edge-bound m margin r x g) (λ x g. step-edge m margin r x g) (λ x g. back-step m margin r x g)
+          (λ a. digit a ≡ 0) (λ a. ℕ-discrete (digit a) 0) (codeRight n) (λ a b x y p q i. key-injective r a b x y p q i)
+          (λ x j g t. has-east m margin r x g j t) e k h t in
           made (s .0) (s .1) (s .2)
 
   -- Only one start lies on a cycle.
@@ -142,11 +141,11 @@ module _ (n : ℕ) (nums : List ℕ) (small : n ≤ 8) where
   unfolding cycle
   not-above c d e s t i j =
       let r : ℕ = suc (getD nums c 0) in
-      let p : Ring (regionAt n nums) r (northSide n c) = ring (regionAt n nums) margin r (northSide n c) (s .north) in
-      let q : Ring (regionAt n nums) (suc (getD nums d 0)) (northSide n d) = ring (regionAt n nums) margin (suc (getD nums d 0)) (northSide n d) (t .north) in
-      let o : On (step (regionAt n nums)) (northSide n d) e = q .holds e .1 j in
-      let b : On (step (regionAt n nums)) e (northSide n d) = met-back (regionAt n nums) margin (suc (getD nums d 0)) (northSide n d) e (t .north) o in
-      let a : On (step (regionAt n nums)) (northSide n c) (northSide n d) = met-then (regionAt n nums) margin r (northSide n c) e (northSide n d) (p .holds e .1 i) b in
+      let p : Ring m r (northSide n c) = ring m margin r (northSide n c) (s .north) in
+      let q : Ring m (suc (getD nums d 0)) (northSide n d) = ring m margin (suc (getD nums d 0)) (northSide n d) (t .north) in
+      let o : On (step m) (northSide n d) e = q .holds e .1 j in
+      let b : On (step m) e (northSide n d) = met-back m margin (suc (getD nums d 0)) (northSide n d) e (t .north) o in
+      let a : On (step m) (northSide n c) (northSide n d) = met-then m margin r (northSide n c) e (northSide n d) (p .holds e .1 i) b in
       subst (λ x. c ≤ x) (north-code n d small (t .inside)) (s .least (northSide n d) (p .holds (northSide n d) .0 a) (north-digit n d))
 
   pub one-start : (c d e : ℕ) → StartAt n nums c → StartAt n nums d → In e (cycle n nums c) → In e (cycle n nums d) → c ≡ d

@@ -4,7 +4,7 @@ use mathlib.Core.Logic.{_≢_}
 use mathlib.Core.Bool.{true, false}
 use Prim.Native.Nat.{ℕ, _<_}
 use lib.Dec.{eqb}
-use Rattle.lattice.specs.Directions.{move, rightOf, leftOf, opposite, edge, tail, digit, head}
+use Rattle.lattice.specs.Directions.{rightOf, leftOf, edge, tail, digit, head}
 use Rattle.grid.specs.Map.{around}
 
 -- A unit side from the point p in the direction d that has a pixel of the region r on its right and none on its left. "A unit side

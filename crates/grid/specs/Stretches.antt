@@ -1,12 +1,12 @@
 -- The stretch of the corner list that holds the corners of cycle k, by the end list.
-use mathlib.Core.Path.{_≡_, refl, sym, ap, ap₂, _∙_, subst}
+use mathlib.Core.Path.{_≡_, refl, sym, ap, ap₂, _∙_}
 use mathlib.Core.List.{List, [], _∷_, _++_}
 use Prim.Native.Nat.{ℕ, zero, suc, _+_, _-_, _≤_, _<_}
 use native.Mathlib.Omega.{arith}
 use lib.ListN.{length, getD, take, drop, length-append, length-drop}
 use lib.Seq.{take-append-seam, drop-append-add, drop-append-le, take-append-le}
 use Rattle.sequences.specs.Over.{over, over-inside}
-use Rattle.grid.specs.Listing.{Cycle, owners, endsFrom, ends, allCorners, pointsAt, cycleCount, cornerCount}
+use Rattle.grid.specs.Listing.{Cycle, owners, endsFrom, ends, allCorners, pointsAt, cornerCount}
 
 -- "It begins at 0 for k = 0, else at the end of cycle k - 1" (document 01, "Outlines"); `at` stands for 0 where the list is the
 -- rest of a longer one.

@@ -1,8 +1,8 @@
 -- The rule of steps keeps to the edges of a region, and can be undone.
-use mathlib.Core.Path.{_≡_, refl, sym, ap, ap₂, _∙_, subst}
+use mathlib.Core.Path.{_≡_, refl, ap, _∙_}
 use mathlib.Core.Logic.{_≢_}
 use mathlib.Core.Bool.{true, false}
-use Prim.Native.Nat.{ℕ, zero, suc, _+_, _-_, _*_, _/_, _%_, _≤_, _<_}
+use Prim.Native.Nat.{ℕ, zero, suc, _+_, _-_, _/_, _%_, _≤_, _<_}
 use native.Mathlib.Decide.{ℕ-discrete}
 use native.Mathlib.Omega.{arith}
 use lib.Dec.{eqb, lit<}
@@ -89,20 +89,40 @@ pub record Quarter (d : ℕ) : Type 0 where
 pub quarter : (d : ℕ) → d < 4 → Quarter d
 unfolding rightOf leftOf opposite
 quarter zero h = record {
-  right-below = lit< tt; left-below = lit< tt; left-of-right = refl; right-of-right = refl;
-  left-of-left = refl; opposite-of-left = refl; right-of-left = refl;
+  right-below = lit< tt;
+  left-below = lit< tt;
+  left-of-right = refl;
+  right-of-right = refl;
+  left-of-left = refl;
+  opposite-of-left = refl;
+  right-of-left = refl;
 }
 quarter (suc zero) h = record {
-  right-below = lit< tt; left-below = lit< tt; left-of-right = refl; right-of-right = refl;
-  left-of-left = refl; opposite-of-left = refl; right-of-left = refl;
+  right-below = lit< tt;
+  left-below = lit< tt;
+  left-of-right = refl;
+  right-of-right = refl;
+  left-of-left = refl;
+  opposite-of-left = refl;
+  right-of-left = refl;
 }
 quarter (suc (suc zero)) h = record {
-  right-below = lit< tt; left-below = lit< tt; left-of-right = refl; right-of-right = refl;
-  left-of-left = refl; opposite-of-left = refl; right-of-left = refl;
+  right-below = lit< tt;
+  left-below = lit< tt;
+  left-of-right = refl;
+  right-of-right = refl;
+  left-of-left = refl;
+  opposite-of-left = refl;
+  right-of-left = refl;
 }
 quarter (suc (suc (suc zero))) h = record {
-  right-below = lit< tt; left-below = lit< tt; left-of-right = refl; right-of-right = refl;
-  left-of-left = refl; opposite-of-left = refl; right-of-left = refl;
+  right-below = lit< tt;
+  left-below = lit< tt;
+  left-of-right = refl;
+  right-of-right = refl;
+  left-of-left = refl;
+  opposite-of-left = refl;
+  right-of-left = refl;
 }
 quarter (suc (suc (suc (suc d)))) h = no-digit d h
 

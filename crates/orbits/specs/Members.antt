@@ -1,6 +1,6 @@
 -- Members of a list by their places, lists in an order, lists without repeats.
 use mathlib.Core.Path.{_≡_, refl, sym, ap, _∙_, subst}
-use mathlib.Core.Logic.{_≢_, _⊎_, inl, inr, _↔_}
+use mathlib.Core.Logic.{_≢_, _⊎_, inl, inr}
 use mathlib.Core.List.{List, [], _∷_, _++_, flatMap}
 use Prim.Native.Nat.{ℕ, zero, suc, _+_, _-_, _≤_, _<_}
 use native.Mathlib.Decide.{decLe, decLt}
@@ -103,7 +103,7 @@ ordered-flat R S f [] o each across = λ i j h k. let z : ⊥ = omega arith in a
 ordered-flat R S f (x ∷ xs) o each across =
     ordered-append R (f x) (flatMap f xs) (each x (in-first x xs))
     (ordered-flat R S f xs (ordered-rest S x xs o) (λ y h. each y (in-later y x xs h))
-      (λ y z a b h k s p q. across y z a b (in-later y x xs h) (in-later z x xs k) s p q))
+    (λ y z a b h k s p q. across y z a b (in-later y x xs h) (in-later z x xs k) s p q))
     (λ a b p q. apart a b p (in-flat f xs b q))
   where
     apart : (a b : ℕ) → In a (f x) → (y : ℕ) × In y xs × In b (f y) → R a b
