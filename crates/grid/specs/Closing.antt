@@ -13,7 +13,7 @@ use Rattle.lattice.specs.Walks.{outline, turns, lastOf, corners}
 use Rattle.lattice.specs.Straight.{Room}
 use Rattle.lattice.specs.Corners.{Walk, turns-turn, outline-of-corners}
 use Rattle.orbits.specs.Members.{In}
-use Rattle.orbits.specs.Orbits.{iter, iter-out, walk, orbit, orbitF}
+use Rattle.orbits.specs.Orbits.{iter, iter-out, walk, orbit, until}
 use Rattle.grid.specs.Map.{regionAt, around}
 use Rattle.grid.specs.Margins.{Margin}
 use Rattle.grid.specs.Steps.{Side, Edge, step}
@@ -25,8 +25,8 @@ use Rattle.grid.specs.Starting.{StartAt, margin}
 
 -- The edges of the cycle after its first.
 unfoldable pub others : (ℕ → ℕ → ℕ) → ℕ → List ℕ
-unfolding orbitF step
-others m e = orbitF 526336 (step m) e (step m e)
+unfolding until step
+others m e = until 526336 (step m) e (step m e)
 
 pub cycle-first : (m : ℕ → ℕ → ℕ) (e : ℕ) → cycleFrom m e ≡ e ∷ others m e
 unfolding cycleFrom orbit others
