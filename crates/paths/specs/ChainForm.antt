@@ -87,3 +87,25 @@ pub record ChainForm (start : ℕ) (bs : List ℕ) : Type 0 where
 -- How many corners a chain gives, 0 if it has not the form: the number by which the code knows it.
 unfoldable pub cornerCount : ℕ → List ℕ → ℕ
 cornerCount start bs = cond (chainForm start bs) (length (cornersOf start bs)) 0
+
+-- What the test says, each part by itself.
+pub record ChainParts (start : ℕ) (bs : List ℕ) : Type 0 where
+  pub within : inside start ≡ true
+  pub first : firstEast bs ≡ true
+  pub across : lastAcross bs ≡ true
+  pub closing : closes start bs ≡ true
+  pub most : length (cornersOf start bs) ≤ 262144
+
+pub chain-parts : (start : ℕ) (bs : List ℕ) → chainForm start bs ≡ true → ChainParts start bs
+unfolding chainForm
+chain-parts start bs h =
+    let few = leb (length (cornersOf start bs)) 262144 in
+    let a = and-both (inside start) (firstEast bs && (lastAcross bs && (closes start bs && few))) h in
+    let b = and-both (firstEast bs) (lastAcross bs && (closes start bs && few)) (a .1) in
+    let c = and-both (lastAcross bs) (closes start bs && few) (b .1) in
+    let d = and-both (closes start bs) few (c .1) in
+    record { within = a .0; first = b .0; across = c .0; closing = d .0; most = leb-true (length (cornersOf start bs)) 262144 (d .1) }
+
+pub from-chain-parts : (start : ℕ) (bs : List ℕ) → ChainParts start bs → chainForm start bs ≡ true
+unfolding chainForm
+from-chain-parts start bs p = simp (p .within, p .first, p .across, p .closing, le-leb (length (cornersOf start bs)) 262144 (p .most))
