@@ -94,3 +94,10 @@ unfolding run
 run-snoc d zero p r = ap (λ x. edge x d ∷ []) (sym (far-zero d p))
 run-snoc d (suc k) p r =
     ap (λ t. edge p d ∷ t) (run-snoc d k (move d p) (room-first d (suc k) p r) ∙ ap (λ x. run d k (move d p) ++ (edge x d ∷ [])) (far-first d k p (room-less d (suc k) p r)))
+
+pub room-one : (d k p : ℕ) → Room d (suc k) p → Room d 1 p
+unfolding Room
+room-one zero k p r = omega arith
+room-one (suc zero) k p r = omega arith
+room-one (suc (suc zero)) k p r = omega arith
+room-one (suc (suc (suc d))) k p r = r
