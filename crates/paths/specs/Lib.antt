@@ -10,3 +10,4 @@ pub mod Chain
 pub mod ChainForm
 pub mod Reading
 pub mod Counting
+pub mod FormToChain
