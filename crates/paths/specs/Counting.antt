@@ -44,7 +44,7 @@ across-below b h =
     ]
 
 -- The last edge has the last digit.
-last-edge : (bs : List ℕ) (e p : ℕ) → 0 < length bs → digitOf (lastByte bs) < 4 → digit (lastOf e (walk p bs)) ≡ digitOf (lastByte bs)
+pub last-edge : (bs : List ℕ) (e p : ℕ) → 0 < length bs → digitOf (lastByte bs) < 4 → digit (lastOf e (walk p bs)) ≡ digitOf (lastByte bs)
 unfolding lastByte lastOf walk
 last-edge [] e p h k = absurd (omega arith)
 last-edge (b ∷ []) e p h k = digit-edge p (digitOf b) k
@@ -104,7 +104,7 @@ some-bytes [] h = absurd (omega (arith, first-says [] h))
 some-bytes (b ∷ bs) h = omega arith
 
 -- The first edge turns, so a chain has corners; the start is the first.
-turns-first : (d p b : ℕ) (bs : List ℕ) → b ≡ 48 → d ≢ 0 → turns d (walk p (b ∷ bs)) ≡ p ∷ turns 0 (walk (move 0 p) bs)
+pub turns-first : (d p b : ℕ) (bs : List ℕ) → b ≡ 48 → d ≢ 0 → turns d (walk p (b ∷ bs)) ≡ p ∷ turns 0 (walk (move 0 p) bs)
 unfolding walk digitOf
 turns-first d p b bs e n =
     let z : b - 48 ≡ 0 = omega arith in

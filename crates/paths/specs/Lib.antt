@@ -11,3 +11,4 @@ pub mod ChainForm
 pub mod Reading
 pub mod Counting
 pub mod FormToChain
+pub mod ChainToForm
