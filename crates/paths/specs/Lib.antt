@@ -12,3 +12,5 @@ pub mod Reading
 pub mod Counting
 pub mod FormToChain
 pub mod ChainToForm
+pub mod RoundTrip
+pub mod Dial
