@@ -12,7 +12,9 @@ use borrow.Author.Tests.{eq-eqb, ne-eqb, eqb-true, eqb-false, leb-true, le-leb, 
 use Rattle.lattice.specs.Tests.{and-both, and-true-true, then-both, not-flips}
 use Rattle.lattice.specs.Directions.{xOf, yOf, move, opposite, edge}
 use Rattle.lattice.specs.Walks.{corners, lastOf}
-use Rattle.lattice.specs.CycleForm.{inside, inside-says, says-inside}
+use Rattle.lattice.specs.CycleForm.{inside}
+use Rattle.paths.specs.Answers.{Writes, numberOf}
+use Rattle.paths.specs.declared.Written.{Written}
 
 -- The digit of a byte.
 unfoldable pub digitOf : ℕ → ℕ
@@ -66,6 +68,14 @@ cornersOf start bs = corners (walk start bs)
 
 unfoldable pub chainForm : ℕ → List ℕ → Bool
 chainForm start bs = inside start && (firstEast bs && (lastAcross bs && (closes start bs && leb (length (cornersOf start bs)) 262144)))
+
+-- "Chain corners, their number" (document 01, needs).
+unfoldable pub readNumber : ℕ → List ℕ → List ℕ → ℕ
+readNumber start bs list = numberOf 17 (chainForm start bs) (length (cornersOf start bs)) (length list)
+
+-- What the reader promises of the start, the bytes, the corner list before and after, and the answer.
+abbrev pub ChainRead : ℕ → List ℕ → List ℕ → List ℕ → Written → Type 0
+ChainRead start bs list list′ answer = Writes (readNumber start bs list) (cornersOf start bs) list list′ answer
 
 -- The same, in words about each byte. The point after i bytes:
 unfoldable pub pointAt : ℕ → List ℕ → ℕ → ℕ

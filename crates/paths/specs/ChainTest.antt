@@ -13,15 +13,8 @@ use Rattle.lattice.specs.Tests.{and-true-true, then-both}
 use Rattle.lattice.specs.Directions.{move, opposite}
 use Rattle.lattice.specs.CycleForm.{inside, inside-says, says-inside}
 use Rattle.paths.specs.ChainForm.{digitOf, isDigit, free, allowed, leads, lastByte, firstEast, isAcross, lastAcross, closes, cornersOf, pointAt, chainForm, ChainForm, ChainParts, chain-parts, from-chain-parts}
-use Rattle.paths.specs.Reading.{Allowed, allowed-says}
+use Rattle.paths.specs.Reading.{Allowed, allowed-says, says-allowed}
 use Rattle.paths.specs.Counting.{across-says, first-says, across-below}
-
-says-allowed : (d p b : ℕ) → Allowed d p b → allowed d p b ≡ true
-unfolding allowed isDigit
-says-allowed d p b a =
-    and-true-true (leb 48 b && leb b 51) (not (eqb (digitOf b) (opposite d)) && free (digitOf b) p)
-    (and-true-true (leb 48 b) (leb b 51) (le-leb 48 b (a .low)) (le-leb b 51 (a .high)))
-    (and-true-true (not (eqb (digitOf b) (opposite d))) (free (digitOf b) p) (ap not (ne-eqb (digitOf b) (opposite d) (a .onward))) (a .stays))
 
 -- The digit before the byte at i; d stands before the first.
 unfoldable pub before : ℕ → List ℕ → ℕ → ℕ

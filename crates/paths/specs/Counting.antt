@@ -15,8 +15,6 @@ use Rattle.lattice.specs.Corners.{turns-turn}
 use Rattle.lattice.specs.CycleForm.{inside}
 use Rattle.paths.specs.ChainForm.{digitOf, walk, leads, lastByte, firstEast, isAcross, lastAcross, closes, cornersOf, chainForm, cornerCount, chain-parts}
 use Rattle.paths.specs.Reading.{counted}
-use Rattle.paths.specs.Answers.{Writes, numberOf}
-use Rattle.paths.specs.declared.Written.{Written}
 
 pub last-at : (bs : List ℕ) → 0 < length bs → getD bs (length bs - 1) 0 ≡ lastByte bs
 unfolding lastByte lastOf
@@ -141,14 +139,6 @@ count-some start bs h = pick (chainForm start bs) refl h
     pick : (t : Bool) → chainForm start bs ≡ t → cond t (length (cornersOf start bs)) 0 ≢ 0 → (chainForm start bs ≡ true) × (cond t (length (cornersOf start bs)) 0 ≡ length (cornersOf start bs))
     pick true e n = (e, refl)
     pick false e n = absurd (n refl)
-
--- "Chain corners, their number" (document 01, needs).
-unfoldable pub readNumber : ℕ → List ℕ → List ℕ → ℕ
-readNumber start bs list = numberOf 17 (chainForm start bs) (length (cornersOf start bs)) (length list)
-
--- What the reader promises of the start, the bytes, the corner list before and after, and the answer.
-abbrev pub ChainRead : ℕ → List ℕ → List ℕ → List ℕ → Written → Type 0
-ChainRead start bs list list′ answer = Writes (readNumber start bs list) (cornersOf start bs) list list′ answer
 
 -- What is known of a chain and of its last digit.
 pub record Readable (start : ℕ) (bs : List ℕ) (last : ℕ) : Type 0 where

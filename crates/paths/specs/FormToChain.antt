@@ -20,7 +20,7 @@ use Rattle.lattice.specs.Outlines.{tail-edge, digit-edge, Axis, crossing, next-
 use Rattle.lattice.specs.Closing.{outline-closes}
 use Rattle.paths.specs.Chain.{byteOf, bytesOf, chainOf, bytes-append}
 use Rattle.paths.specs.ChainForm.{digitOf, walk, isDigit, free, allowed, leads, lastByte, firstEast, isAcross, lastAcross, closes, cornersOf, chainForm, from-chain-parts}
-use Rattle.paths.specs.Reading.{move-inside}
+use Rattle.paths.specs.Reading.{says-allowed}
 
 -- The bytes of a walk walk it again.
 pub digit-of-byte : (e : ℕ) → digitOf (byteOf e) ≡ digit e
@@ -39,14 +39,12 @@ walk-bytes (e ∷ es) p close w =
     (ap₂ edge (sym (w .0)) (digit-of-byte e) ∙ edge-of e)
     (ap (λ q. walk q (map byteOf es)) (ap₂ move (digit-of-byte e) (sym (w .0))) ∙ walk-bytes es (move (digit e) (tail e)) close (w .2))
 
--- A byte of a unit that ends within.
-says-allowed : (d p b h : ℕ) → b ≡ 48 + h → h < 4 → h ≢ opposite d → free h p ≡ true → allowed d p b ≡ true
-unfolding allowed isDigit digitOf
-says-allowed d p b h e below n f =
-    let z : b - 48 ≡ h = omega arith in
-    and-true-true (leb 48 b && leb b 51) (not (eqb (b - 48) (opposite d)) && free (b - 48) p)
-    (and-true-true (leb 48 b) (leb b 51) (le-leb 48 b (omega arith)) (le-leb b 51 (omega arith)))
-    (rw z (and-true-true (not (eqb h (opposite d))) (free h p) (ap not (ne-eqb h (opposite d) n)) f))
+-- The byte of a unit that ends within may follow.
+byte-allowed : (d p b h : ℕ) → b ≡ 48 + h → h < 4 → h ≢ opposite d → free h p ≡ true → allowed d p b ≡ true
+unfolding digitOf
+byte-allowed d p b h e below n f =
+    let z : h ≡ b - 48 = omega arith in
+    says-allowed d p b (record { low = omega arith; high = omega arith; onward = rw (← z) n; stays = rw (← z) f })
 
 free-far : (d k p : ℕ) → d < 4 → Room d (suc k) p → inside (far d (suc k) p) ≡ true → free d p ≡ true
 unfolding far Room free xOf yOf
@@ -67,7 +65,7 @@ module _ (es : List ℕ) (close h : ℕ) (below : h < 4) where
   first-unit d k p n r i w =
       let g = digit-edge p h below in
       let z : digitOf (byteOf (edge p h)) ≡ h = digit-of-byte (edge p h) ∙ g in
-      let a = says-allowed d p (byteOf (edge p h)) h (byte-edge p h below) below n (free-far h k p below r i) in
+      let a = byte-allowed d p (byteOf (edge p h)) h (byte-edge p h below) below n (free-far h k p below r i) in
       rw (a, leads, z) w
 
   run-leads : (k p : ℕ) → Room h k p → inside (far h k p) ≡ true → leads h (far h k p) (bytesOf es) close ≡ true → leads h p (bytesOf (run h k p ++ es)) close ≡ true

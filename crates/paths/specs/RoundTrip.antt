@@ -11,8 +11,7 @@ use Rattle.lattice.specs.Walks.{outline}
 use Rattle.lattice.specs.CycleForm.{cycleForm}
 use Rattle.paths.specs.Answers.{Writes, accepted, numberOf, accepts, no-cause}
 use Rattle.paths.specs.Chain.{chainOf, bytesOf, chainNeed, chainNumber, ChainWritten, length-bytes}
-use Rattle.paths.specs.ChainForm.{chainForm, cornersOf}
-use Rattle.paths.specs.Counting.{readNumber, ChainRead}
+use Rattle.paths.specs.ChainForm.{chainForm, cornersOf, readNumber, ChainRead}
 use Rattle.paths.specs.FormToChain.{chain-of-form, corners-of-chain}
 use Rattle.paths.specs.ChainToForm.{form-of-chain, bytes-of-corners}
 use Rattle.paths.specs.declared.Written.{Written}

@@ -4,7 +4,7 @@ ghost use mathlib.Core.Path.{_≡_};
 ghost use Prim.Native.Nat.{_+_, _*_, _<_};
 ghost use lib.ListN.{length};
 ghost use Rattle.paths.specs.Chain.{ChainWritten};
-ghost use Rattle.paths.specs.Counting.{ChainRead};
+ghost use Rattle.paths.specs.ChainForm.{ChainRead};
 ghost use Rattle.paths.specs.Stretch.{Place, Part, beginOf};
 ghost use Rattle.paths.specs.Svg.{Svg};
 

@@ -6,8 +6,8 @@ use lib.ListN.{length, getD}
 use Rattle.lattice.specs.Walks.{turns}
 use Rattle.paths.specs.Answers.{refused, written, no-form, too-short, no-cause}
 use Rattle.paths.specs.Stores.{put-same}
-use Rattle.paths.specs.ChainForm.{chainForm, cornersOf, walk, chain-parts}
-use Rattle.paths.specs.Counting.{readNumber, count-none, count-some, Readable, readable}
+use Rattle.paths.specs.ChainForm.{chainForm, cornersOf, walk, readNumber, chain-parts}
+use Rattle.paths.specs.Counting.{count-none, count-some, Readable, readable}
 use borrow.Author.Needs.{needs}
 use Rattle.paths.proofs.read_chain.Statement.{statement}
 use Rattle.paths.proofs.read_chain.Tie as tie
