@@ -1,16 +1,15 @@
 -- The walk around a cycle form closes: its edges stand one after the other from the first corner back to it.
-use mathlib.Core.Path.{_≡_, refl, sym, ap, ap₂, _∙_, subst}
-use mathlib.Core.Bool.{Bool, true, false, not}
+use mathlib.Core.Path.{_≡_, refl}
+use mathlib.Core.Bool.{Bool, true, not}
 use mathlib.Core.List.{List, [], _∷_, _++_, append-nil}
-use Prim.Native.Nat.{ℕ, zero, suc, _+_, _*_, _/_, _%_, _≤_, _<_}
-use native.Mathlib.Omega.{arith}
-use Rattle.lattice.specs.Directions.{move, edge, tail, digit, head}
+use Prim.Native.Nat.{ℕ, zero, suc, _+_, _<_}
+use Rattle.lattice.specs.Directions.{move, head}
 use Rattle.lattice.specs.Walks.{run, straight, walkFrom, outline}
 use Rattle.lattice.specs.Straight.{far, Room, far-zero, far-first, room-first, room-one}
 use Rattle.lattice.specs.Corners.{Walk}
-use Rattle.lattice.specs.CycleForm.{inside, allInside, byTurns, cycleForm, parts}
+use Rattle.lattice.specs.CycleForm.{inside, allInside, byTurns, cycleForm}
 use Rattle.lattice.specs.Legs.{heading, distance, Leg, straight-is}
-use Rattle.lattice.specs.Outlines.{tail-edge, digit-edge, first-step, last-step, Round, round}
+use Rattle.lattice.specs.Outlines.{tail-edge, digit-edge, first-step, last-step, round}
 
 -- A run, and then the rest of the walk.
 pub walk-run : (d k p : ℕ) (es : List ℕ) (close : ℕ) → d < 4 → Room d k p → Walk (far d k p) es close → Walk p (run d k p ++ es) close

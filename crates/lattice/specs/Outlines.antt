@@ -1,16 +1,16 @@
 -- The corners of the walk around a cycle form are the corners of the form.
 use mathlib.Core.Path.{_≡_, refl, sym, ap, _∙_}
 use mathlib.Core.Logic.{_≢_}
-use mathlib.Core.Bool.{Bool, true, false, not, cond, _&&_}
+use mathlib.Core.Bool.{Bool, true, false, not, cond}
 use mathlib.Core.List.{List, [], _∷_, _++_, append-nil}
-use Prim.Native.Nat.{ℕ, zero, suc, _+_, _*_, _/_, _%_, _≤_, _<_}
+use Prim.Native.Nat.{ℕ, zero, suc, _+_, _%_, _<_}
 use native.Mathlib.Omega.{arith}
 use lib.ListN.{length, length-append}
 use Rattle.lattice.specs.Tests.{and-both, then-both, not-flips}
 use Rattle.lattice.specs.Directions.{move, edge, tail, digit}
 use Rattle.lattice.specs.Walks.{run, straight, walkFrom, outline, turns, lastOf, corners}
 use Rattle.lattice.specs.Corners.{turns-on, turns-turn}
-use Rattle.lattice.specs.CycleForm.{inside, allInside, along, byTurns, steps, cycleForm, parts, Parts}
+use Rattle.lattice.specs.CycleForm.{inside, allInside, along, byTurns, steps, cycleForm, parts}
 use Rattle.lattice.specs.Legs.{heading, distance, Leg, leg, straight-is}
 
 pub tail-edge : (p d : ℕ) → d < 4 → tail (edge p d) ≡ p

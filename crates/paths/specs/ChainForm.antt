@@ -1,15 +1,14 @@
 -- The form of a chain (cause 17): "bytes 48 to 51 only, start and every point within 0 to 256, closed, first digit 0, last
 -- digit 1 or 3, no digit followed by its opposite, at most 262,144 corners" (document 01).
-use mathlib.Core.Path.{_≡_, refl, sym, ap, _∙_}
-use mathlib.Core.Logic.{_≢_, _↔_, _⊎_, inl, inr}
+use mathlib.Core.Path.{_≡_}
+use mathlib.Core.Logic.{_≢_, _⊎_}
 use mathlib.Core.Bool.{Bool, true, false, not, cond, _&&_, _||_}
 use mathlib.Core.List.{List, [], _∷_}
 use Prim.Native.Nat.{ℕ, zero, suc, _+_, _-_, _≤_, _<_}
-use native.Mathlib.Omega.{arith}
 use lib.Dec.{eqb, leb, ltb}
 use lib.ListN.{length, getD}
-use borrow.Author.Tests.{eq-eqb, ne-eqb, eqb-true, eqb-false, leb-true, le-leb, ltb-true, lt-ltb}
-use Rattle.lattice.specs.Tests.{and-both, and-true-true, then-both, not-flips}
+use borrow.Author.Tests.{leb-true, le-leb}
+use Rattle.lattice.specs.Tests.{and-both}
 use Rattle.lattice.specs.Directions.{xOf, yOf, move, opposite, edge}
 use Rattle.lattice.specs.Walks.{corners, lastOf}
 use Rattle.lattice.specs.CycleForm.{inside}

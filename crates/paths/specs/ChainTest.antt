@@ -1,20 +1,19 @@
 -- The test of a chain holds exactly for the form of a chain, said of each byte.
 use mathlib.Core.Path.{_≡_, refl, sym, ap, _∙_}
 use mathlib.Core.Logic.{_≢_, _↔_, _⊎_, inl, inr}
-use mathlib.Core.Bool.{Bool, true, false, not, _&&_, _||_}
+use mathlib.Core.Bool.{true}
 use mathlib.Core.List.{List, [], _∷_}
-use Prim.Native.Nat.{ℕ, zero, suc, _+_, _-_, _≤_, _<_}
+use Prim.Native.Nat.{ℕ, zero, suc, _+_, _-_, _<_}
 use native.Mathlib.Numerals.{add-one}
 use native.Mathlib.Omega.{arith}
-use lib.Dec.{eqb, leb}
 use lib.ListN.{length, getD}
-use borrow.Author.Tests.{eq-eqb, ne-eqb, eqb-true, le-leb}
-use Rattle.lattice.specs.Tests.{and-true-true, then-both}
+use borrow.Author.Tests.{eq-eqb, eqb-true}
+use Rattle.lattice.specs.Tests.{then-both}
 use Rattle.lattice.specs.Directions.{move, opposite}
-use Rattle.lattice.specs.CycleForm.{inside, inside-says, says-inside}
-use Rattle.paths.specs.ChainForm.{digitOf, isDigit, free, allowed, leads, lastByte, firstEast, isAcross, lastAcross, closes, cornersOf, pointAt, chainForm, ChainForm, ChainParts, chain-parts, from-chain-parts}
+use Rattle.lattice.specs.CycleForm.{inside-says, says-inside}
+use Rattle.paths.specs.ChainForm.{digitOf, allowed, leads, lastByte, firstEast, isAcross, lastAcross, closes, pointAt, chainForm, ChainForm, ChainParts, chain-parts, from-chain-parts}
 use Rattle.paths.specs.Reading.{Allowed, allowed-says, says-allowed}
-use Rattle.paths.specs.Counting.{across-says, first-says, across-below}
+use Rattle.paths.specs.Counting.{across-says, first-says}
 
 -- The digit before the byte at i; d stands before the first.
 unfoldable pub before : ℕ → List ℕ → ℕ → ℕ

@@ -1,23 +1,22 @@
 -- The corners of a chain are a cycle form, and its chain is the chain read.
 use mathlib.Core.Path.{_≡_, refl, sym, ap, ap₂, _∙_, subst}
 use mathlib.Core.Logic.{_≢_, inl, inr}
-use mathlib.Core.Bool.{Bool, true, false, not, cond, _&&_, Bool·not-not}
-use mathlib.Core.List.{List, [], _∷_, _++_}
-use Prim.Native.Nat.{ℕ, zero, suc, _+_, _-_, _*_, _/_, _%_, _≤_, _<_}
+use mathlib.Core.Bool.{Bool, true, false, not, Bool·not-not}
+use mathlib.Core.List.{List, [], _∷_}
+use Prim.Native.Nat.{ℕ, zero, suc, _+_, _-_, _*_, _%_, _≤_, _<_}
 use native.Mathlib.Decide.{ℕ-discrete}
 use native.Mathlib.Omega.{arith}
-use lib.Dec.{eqb, leb, ltb}
 use lib.ListN.{length, getD}
 use borrow.Author.Tests.{eqb-true, lt-ltb}
-use Rattle.lattice.specs.Tests.{and-both, and-true-true, then-both, not-flips, isEven, even-yes, even-not, even-next, zero-even}
+use Rattle.lattice.specs.Tests.{and-both, and-true-true, then-both, isEven, even-yes, even-not, even-next, zero-even}
 use Rattle.lattice.specs.Directions.{xOf, yOf, move, opposite, edge, tail, digit, head}
 use Rattle.lattice.specs.Walks.{outline, corners, turns, lastOf}
 use Rattle.lattice.specs.Straight.{far, Room, far-one, far-step, room-more}
 use Rattle.lattice.specs.Corners.{Walk, turns-on, turns-turn, outline-of-corners}
-use Rattle.lattice.specs.CycleForm.{inside, allInside, byTurns, along, steps, eastward, AlongX, AlongY, cycleForm, from-parts, inside-says, along-x-says, along-y-says, says-along-x, says-along-y}
+use Rattle.lattice.specs.CycleForm.{inside, allInside, byTurns, along, steps, cycleForm, from-parts, inside-says, along-x-says, along-y-says, says-along-x, says-along-y}
 use Rattle.lattice.specs.Outlines.{tail-edge, digit-edge}
 use Rattle.paths.specs.Chain.{byteOf, bytesOf, chainOf}
-use Rattle.paths.specs.ChainForm.{digitOf, walk, free, allowed, leads, lastByte, firstEast, isAcross, lastAcross, closes, cornersOf, chainForm, chain-parts}
+use Rattle.paths.specs.ChainForm.{digitOf, walk, free, allowed, leads, lastByte, isAcross, lastAcross, closes, cornersOf, chainForm, chain-parts}
 use Rattle.paths.specs.Reading.{Allowed, allowed-says, digit-below, free-says, move-inside}
 use Rattle.paths.specs.Counting.{last-edge, corners-turns, across-below, across-says, first-says, some-bytes, turns-first}
 use Rattle.paths.specs.Scan.{eastward-is}

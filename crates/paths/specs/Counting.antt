@@ -1,15 +1,15 @@
 -- The number of corners of a chain, by the tests that the code asks one after the other.
 use mathlib.Core.Path.{_≡_, refl, sym, ap, ap₂, _∙_}
 use mathlib.Core.Logic.{_≢_, _⊎_, inl, inr}
-use mathlib.Core.Bool.{Bool, true, false, cond, _&&_, _||_, false≢true}
+use mathlib.Core.Bool.{Bool, true, false, cond, _&&_, _||_}
 use mathlib.Core.List.{List, [], _∷_}
-use Prim.Native.Nat.{ℕ, zero, suc, _+_, _-_, _≤_, _<_}
+use Prim.Native.Nat.{ℕ, suc, _-_, _≤_, _<_}
 use native.Mathlib.Omega.{arith}
 use lib.Dec.{eqb, leb}
 use lib.ListN.{length, getD}
-use borrow.Author.Tests.{eq-eqb, ne-eqb, eqb-true, le-leb, lt-leb}
+use borrow.Author.Tests.{eqb-true, le-leb, lt-leb}
 use Rattle.lattice.specs.Directions.{edge, move, digit}
-use Rattle.lattice.specs.Walks.{turns, lastOf, corners}
+use Rattle.lattice.specs.Walks.{turns, lastOf}
 use Rattle.lattice.specs.Outlines.{digit-edge, tail-edge, corners-are}
 use Rattle.lattice.specs.Corners.{turns-turn}
 use Rattle.lattice.specs.CycleForm.{inside}

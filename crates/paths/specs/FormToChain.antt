@@ -1,25 +1,24 @@
 -- A cycle form written as a chain has the form of a chain, and its corners are the corners of the form.
-use mathlib.Core.Path.{_≡_, refl, sym, ap, ap₂, _∙_, subst}
+use mathlib.Core.Path.{_≡_, refl, sym, ap, ap₂, _∙_}
 use mathlib.Core.Logic.{_≢_}
-use mathlib.Core.Bool.{Bool, true, false, not, cond, _&&_}
+use mathlib.Core.Bool.{Bool, true, false, not}
 use mathlib.Core.List.{List, [], _∷_, _++_, map, append-nil}
-use Prim.Native.Nat.{ℕ, zero, suc, _+_, _-_, _*_, _/_, _%_, _≤_, _<_}
+use Prim.Native.Nat.{ℕ, zero, suc, _+_, _-_, _*_, _/_, _%_, _<_}
 use native.Mathlib.Decide.{ℕ-discrete}
 use native.Mathlib.Omega.{arith}
-use lib.Dec.{eqb, leb, ltb}
 use lib.ListN.{length, getD}
-use borrow.Author.Tests.{eq-eqb, ne-eqb, le-leb, lt-ltb, ltb-true}
-use Rattle.lattice.specs.Tests.{and-true-true, then-both}
+use borrow.Author.Tests.{eq-eqb, lt-ltb, ltb-true}
+use Rattle.lattice.specs.Tests.{then-both}
 use Rattle.lattice.specs.Directions.{xOf, yOf, move, opposite, edge, tail, digit, head}
 use Rattle.lattice.specs.Walks.{run, straight, walkFrom, outline, corners, lastOf}
 use Rattle.lattice.specs.Straight.{far, Room, far-zero, far-first, room-first}
 use Rattle.lattice.specs.Corners.{Walk, edge-of}
-use Rattle.lattice.specs.CycleForm.{inside, allInside, byTurns, along, eastward, AlongX, cycleForm, parts, Parts, inside-says, says-inside, along-x-says}
+use Rattle.lattice.specs.CycleForm.{inside, allInside, byTurns, along, eastward, cycleForm, parts, inside-says, along-x-says}
 use Rattle.lattice.specs.Legs.{heading, distance, Leg, straight-is, heading-below, heading-east}
-use Rattle.lattice.specs.Outlines.{tail-edge, digit-edge, Axis, crossing, next-axis, first-step, last-step, last-of-walk, walk-some, round, corners-of-outline}
+use Rattle.lattice.specs.Outlines.{digit-edge, Axis, next-axis, first-step, last-step, last-of-walk, walk-some, round, corners-of-outline}
 use Rattle.lattice.specs.Closing.{outline-closes}
-use Rattle.paths.specs.Chain.{byteOf, bytesOf, chainOf, bytes-append}
-use Rattle.paths.specs.ChainForm.{digitOf, walk, isDigit, free, allowed, leads, lastByte, firstEast, isAcross, lastAcross, closes, cornersOf, chainForm, from-chain-parts}
+use Rattle.paths.specs.Chain.{byteOf, bytesOf, chainOf}
+use Rattle.paths.specs.ChainForm.{digitOf, walk, free, allowed, leads, lastByte, firstEast, isAcross, lastAcross, closes, cornersOf, chainForm, from-chain-parts}
 use Rattle.paths.specs.Reading.{says-allowed}
 
 -- The bytes of a walk walk it again.

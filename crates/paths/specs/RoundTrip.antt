@@ -1,16 +1,16 @@
 -- "A cycle form written as a chain and read from its first corner comes back the same; an accepted chain read and then written
 -- gives the same bytes" (document 01, "Path, chain and picture").
-use mathlib.Core.Path.{_≡_, refl, sym, ap, _∙_}
-use mathlib.Core.Bool.{Bool, true, false}
-use mathlib.Core.List.{List, [], _∷_}
-use Prim.Native.Nat.{ℕ, zero, suc, _≤_, _<_}
+use mathlib.Core.Path.{_≡_, sym, ap, _∙_}
+use mathlib.Core.Bool.{true}
+use mathlib.Core.List.{List}
+use Prim.Native.Nat.{ℕ, _≤_}
 use native.Mathlib.Omega.{arith}
 use lib.ListN.{length, getD, take}
 use Rattle.sequences.specs.Over.{over, take-over}
 use Rattle.lattice.specs.Walks.{outline}
 use Rattle.lattice.specs.CycleForm.{cycleForm}
-use Rattle.paths.specs.Answers.{Writes, accepted, numberOf, accepts, no-cause}
-use Rattle.paths.specs.Chain.{chainOf, bytesOf, chainNeed, chainNumber, ChainWritten, length-bytes}
+use Rattle.paths.specs.Answers.{Writes, accepted, accepts, no-cause}
+use Rattle.paths.specs.Chain.{chainOf, chainNeed, chainNumber, ChainWritten, length-bytes}
 use Rattle.paths.specs.ChainForm.{chainForm, cornersOf, readNumber, ChainRead}
 use Rattle.paths.specs.FormToChain.{chain-of-form, corners-of-chain}
 use Rattle.paths.specs.ChainToForm.{form-of-chain, bytes-of-corners}

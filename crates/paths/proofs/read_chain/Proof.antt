@@ -1,6 +1,7 @@
+-- No corners means no chain, and only then; else 8 where the list is too short, else the corners that were counted.
 use mathlib.Core.Path.{_≡_, refl, sym, ap, _∙_}
 use mathlib.Core.Bool.{true}
-use Prim.Native.Nat.{_≤_, _<_, _-_}
+use Prim.Native.Nat.{_-_}
 use native.Mathlib.Omega.{arith}
 use lib.ListN.{length, getD}
 use Rattle.lattice.specs.Walks.{turns}
@@ -11,10 +12,6 @@ use Rattle.paths.specs.Counting.{count-none, count-some, Readable, reada
 use borrow.Author.Needs.{needs}
 use Rattle.paths.proofs.read_chain.Statement.{statement}
 use Rattle.paths.proofs.read_chain.Tie as tie
-use Rattle.paths.proofs.read_chain.Reads as reads
-use Rattle.paths.proofs.read_chain.Lts as lts
-use Rattle.paths.proofs.reading.count.Reads as count-reads
-use Rattle.paths.proofs.reading.write.Reads as write-reads
 
 -- The bytes are a chain, and its corners were counted.
 counted : (c : tie.Else1) → let a = c .before .before .before .before .args in (chainForm (a .start) (a .bytes .now) ≡ true) × (c .before .count .result ≡ length (cornersOf (a .start) (a .bytes .now)))
@@ -26,11 +23,9 @@ counted c =
 chain : (c : tie.Else1) → let a = c .before .before .before .before .args in Readable (a .start) (a .bytes .now) (getD (a .bytes .now) (length (a .bytes .now) - 1) 0 - 48)
 chain c = readable (c .before .before .before .before .args .start) (c .before .before .before .before .args .bytes .now) (counted c .0)
 
--- src/lib.rt:74:9
 count-requires : tie.Need-count-requires
 count-requires c κs = search needs
 
--- src/lib.rt:76:9
 returns : tie.Need-returns
 unfolding readNumber
 returns c =
@@ -39,7 +34,6 @@ returns c =
     refused (readNumber (a .start) (a .bytes .now) (a .corners .now)) 16 (cornersOf (a .start) (a .bytes .now)) (a .corners .now) _
     (no-form 17 (chainForm (a .start) (a .bytes .now)) (length (cornersOf (a .start) (a .bytes .now))) (length (a .corners .now)) f (omega arith)) refl refl
 
--- src/lib.rt:82:9
 returns-2 : tie.Need-returns-2
 unfolding readNumber
 returns-2 c =
@@ -48,35 +42,28 @@ returns-2 c =
     refused (readNumber (a .start) (a .bytes .now) (a .corners .now)) 7 (cornersOf (a .start) (a .bytes .now)) (a .corners .now) _
     (too-short 17 (chainForm (a .start) (a .bytes .now)) (length (cornersOf (a .start) (a .bytes .now))) (length (a .corners .now)) (k .0) (omega (arith, k .1, c .if2 .taken))) refl refl
 
--- src/lib.rt:87:22
 sub-last : tie.Need-sub-last
 sub-last c = omega (arith, chain (c .before) .some)
 
--- src/lib.rt:87:16
 shared-slice-read-last : tie.Need-shared-slice-read-last
 shared-slice-read-last c = omega (arith, chain (c .before .before) .some)
 
--- src/lib.rt:87:16
 sub-last-2 : tie.Need-sub-last-2
 sub-last-2 c = chain (c .before .before) .low
 
--- src/lib.rt:88:9
 write-requires : tie.Need-write-requires
 write-requires c κs =
     let r = chain (c .before .before .before) in
     (r .within, r .below, r .leading, omega (arith, ap length (r .same), counted (c .before .before .before) .1, c .before .before .if2 .left))
 
--- src/lib.rt:91:16
 cast-t14 : tie.Need-cast-t14
 cast-t14 c =
     let a = c .before .before .before .before .before .before .before .before .before .before .args in
     omega (arith, c .before .before .write .ensures .count-is, ap length (chain (c .before .before .before .before .before .before) .same), chain-parts (a .start) (a .bytes .now) (counted (c .before .before .before .before .before .before) .0) .most)
 
--- src/lib.rt:71:1
 same-length : tie.Need-same-length
 same-length c = search needs
 
--- src/lib.rt:71:1
 returns-3 : tie.Need-returns-3
 unfolding readNumber
 returns-3 c =
