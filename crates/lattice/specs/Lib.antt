@@ -7,3 +7,4 @@ pub mod Straight
 pub mod Corners
 pub mod Legs
 pub mod Outlines
+pub mod Closing
