@@ -21,6 +21,7 @@ module _ (bytes : List ℕ) where
     where
       passed : Passed bytes → Accepted bytes (answer bytes .n) (answer bytes .maxval) (stretch bytes)
       passed p = rw (accepted-answer bytes (p .raster) (p .n) (p .maxval) (p .accepted), accepted-stretch bytes (p .raster) (p .n) (p .maxval) (p .accepted)) (p .accepted)
+
       refused : Refused bytes → Accepted bytes (answer bytes .n) (answer bytes .maxval) (stretch bytes)
       refused r = absurd (omega (arith, z, ap (λ (p : Picture). p .number) (r .says), r .least))
 
@@ -31,6 +32,7 @@ module _ (bytes : List ℕ) where
     where
       passed : Passed bytes → (10 ≤ answer bytes .number) × (answer bytes .number ≤ 14)
       passed p = absurd (d (ap (λ (q : Picture). q .number) (accepted-answer bytes (p .raster) (p .n) (p .maxval) (p .accepted))))
+
       refused : Refused bytes → (10 ≤ answer bytes .number) × (answer bytes .number ≤ 14)
       refused r = rw (r .says) (r .least, r .most)
 
@@ -40,6 +42,7 @@ module _ (bytes : List ℕ) where
     where
       passed : Passed bytes → answer bytes ≡ refusal (answer bytes .number)
       passed p = absurd (d (ap (λ (q : Picture). q .number) (accepted-answer bytes (p .raster) (p .n) (p .maxval) (p .accepted))))
+
       refused : Refused bytes → answer bytes ≡ refusal (answer bytes .number)
       refused r = rw (r .says) refl
 
@@ -56,6 +59,7 @@ module _ (bytes : List ℕ) where
       passed p =
           rw (accepted-answer bytes (p .raster) (p .n) (p .maxval) (p .accepted))
           (omega (arith, raster-short bytes (p .raster) _ (p .accepted .file)))
+
       refused : Refused bytes → answer bytes .start + answer bytes .length ≤ length bytes
       refused r = rw (r .says) (omega arith)
 
@@ -75,6 +79,7 @@ module _ (bytes : List ℕ) where
       passed p =
           rw (accepted-answer bytes (p .raster) (p .n) (p .maxval) (p .accepted))
           (omega (arith, raster-short bytes (p .raster) _ (p .accepted .file)))
+
       refused : Refused bytes → answer bytes .start + answer bytes .length ≡ length bytes
       refused r = absurd (omega (arith, z, ap (λ (p : Picture). p .number) (r .says), r .least))
 
@@ -109,7 +114,7 @@ module _ (bytes after : List ℕ) (r : Picture) (a : Answered bytes after r) (z 
   samples-at-most-maxval i h =
       let long : length (stretch bytes) ≡ 4 ^ r .n = accepted .full ∙ square-of-side (r .n) in
       let e : getD bytes (r .start + i) 0 ≡ getD (stretch bytes) i 0 =
-          ap (λ (p : Picture). getD bytes (p .start + i) 0) (a .answered) ∙ sym (stretch-at bytes i (omega (arith, stretch-length bytes, long)))
+      ap (λ (p : Picture). getD bytes (p .start + i) 0) (a .answered) ∙ sym (stretch-at bytes i (omega (arith, stretch-length bytes, long)))
       in
       omega (arith, e, accepted .samples i (omega (arith, long)))
 
