@@ -21,15 +21,13 @@ power c = omega (arith, c .before .before .exponent .ensures, c .if2 .left)
 -- Past the fourth test neither 11 nor 12 applies.
 no-earlier :
     (c : tie.Else4)
-    → (c .before .before .before .before .before .before .args .width ≡ c .before .before .before .before .before .before .args .height)
-    × (exponent (c .before .before .before .before .before .before .args .width) ≤ 8)
-    × (1 ≤ c .before .before .before .before .before .before .args .maxval)
-    × (c .before .before .before .before .before .before .args .maxval ≤ 255)
+    → let a = c .before .before .before .before .before .before .args in
+    (a .width ≡ a .height) × (exponent (a .width) ≤ 8) × (1 ≤ a .maxval) × (a .maxval ≤ 255)
 no-earlier c = (c .before .before .before .if1 .left, power (c .before .before), c .before .if3 .left, c .if4 .left)
 
 -- The raster's length is that of what the header leaves.
-raster-length : (c : tie.Else4) → length (drop (c .before .before .before .before .before .before .args .start) (c .before .before .before .before .before .before .args .bytes .now)) ≡ length (c .before .before .before .before .before .before .args .bytes .now) - c .before .before .before .before .before .before .args .start
-raster-length c = length-drop (c .before .before .before .before .before .before .args .start) (c .before .before .before .before .before .before .args .bytes .now)
+raster-length : (c : tie.Else4) → let a = c .before .before .before .before .before .before .args in length (drop (a .start) (a .bytes .now)) ≡ length (a .bytes .now) - a .start
+raster-length c = let a = c .before .before .before .before .before .before .args in length-drop (a .start) (a .bytes .now)
 
 refusal-requires : tie.Need-refusal-requires
 refusal-requires c κs = search needs
@@ -86,7 +84,8 @@ returns-6 : tie.Need-returns-6
 returns-6 c =
     let (e, h, l, u) = no-earlier (c .before .before .before) in
     let full = raster-length (c .before .before .before) ∙ c .before .before .if5 .left in
-    said-got _ _ _ _ _ (c .before .before .before .before .before .before .before .before .before .pre) (c .before .before .before .before .before .before .before .exponent .ensures) (no-cause _ _ e h l u full (sym (c .before .within .ensures) ∙ c .if6 .taken))
+    said-got _ _ _ _ _ (c .before .before .before .before .before .before .before .before .before .pre) (c .before .before .before .before .before .before .before .exponent .ensures)
+    (no-cause _ _ e h l u full (sym (c .before .within .ensures) ∙ c .if6 .taken))
 
 returns-7 : tie.Need-returns-7
 returns-7 c =
