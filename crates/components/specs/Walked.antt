@@ -1,35 +1,32 @@
 -- One block more of the walk keeps what holds, and what the walk comes to: labels, the number of regions, and a work list of zeros.
-use mathlib.Core.Path.{_≡_, refl, sym, ap, _∙_, subst}
+use mathlib.Core.Path.{_≡_, sym, ap, _∙_}
 use mathlib.Core.Logic.{_↔_}
 use mathlib.Core.List.{List}
 use Prim.Native.Nat.{ℕ, zero, suc, _+_, _*_, _^_, _≤_, _<_}
 use native.Mathlib.Numerals.{add-one}
+use native.Mathlib.Nat.{pow-le-pow-left}
 use native.Mathlib.Decide.{decLe, decLt}
 use native.Mathlib.Omega.{arith}
 use lib.ListN.{length, take, getD, replicate, length-replicate}
 use lib.Seq.{ext-getD}
 use Rattle.sequences.specs.Over.{over, length-over, over-inside, over-beyond}
 use Rattle.location.specs.Codes.{column, row}
-use Rattle.quadtree.specs.Blocks.{Block, blocks, pixels, paint}
+use Rattle.quadtree.specs.Blocks.{blocks, pixels, paint}
 use Rattle.quadtree.specs.Accepted.{Passes}
 use Rattle.staircase.specs.Rows.{doneInRow, doneInColumn}
 use Rattle.unions.specs.Representatives.{rep}
 use Rattle.unions.specs.Counting.{below}
-use Rattle.unions.specs.Roots.{Low, root}
+use Rattle.unions.specs.Roots.{root}
 use Rattle.unions.specs.Joining.{Forest, joins, onto, forest-rep}
 use Rattle.unions.specs.Numbering.{numbersBelow}
 use Rattle.components.specs.Joined.{Connected}
 use Rattle.components.specs.Numbers.{regions, labels}
 use Rattle.components.specs.Holders.{HoldsAt}
 use Rattle.components.specs.LastBlocks.{lastInColumn, lastInRow, ColumnOf, RowOf, columns-written, rows-written, other-columns-kept, other-rows-kept}
-use Rattle.components.specs.BlockPairs.{northPairs, westPairs, blockPairs, pairs-one-more}
+use Rattle.components.specs.BlockPairs.{blockPairs, pairs-one-more}
 use Rattle.components.specs.BlockNumbers.{one-root-exactly-when-connected, block-numbers-are-labels, block-count-is-regions}
 use Rattle.components.specs.Stretches.{fill, length-fill, fill-inside, fill-before, fill-beyond, fill-front}
 use Rattle.components.specs.Walk.{Walking, northSpan, westSpan, stored, count, inside, column-of, row-of, of-column, of-row, block-in-image, north-span, west-span}
-
-side-le-pixels : (n : ℕ) → 2 ^ n ≤ 4 ^ n
-side-le-pixels zero = omega arith
-side-le-pixels (suc n) = omega (arith, side-le-pixels n)
 
 module _ {n : ℕ} {cs ls ks : List ℕ} (passes : Passes n cs ls ks) {work₀ : List ℕ} {k : ℕ} {work p : List ℕ} (w : Walking n cs ls ks work₀ k work p) where
   module _ (less : k < length cs) where
@@ -186,4 +183,4 @@ module _ {n : ℕ} {cs ls ks : List ℕ} (passes : Passes n cs ls ks) {work₀ :
       pick : (i : ℕ) → Dec (i < 2 * 4 ^ n) → getD (over zeros work) i 0 ≡ getD (over zeros work₀) i 0
       pick i (yes l) = over-inside zeros work i (omega (arith, size)) ∙ sym (over-inside zeros work₀ i (omega (arith, size)))
       pick i (no f) =
-          over-beyond zeros work i (omega (arith, size)) ∙ w .beyond i (omega (arith, side-le-pixels n)) ∙ sym (over-beyond zeros work₀ i (omega (arith, size)))
+          over-beyond zeros work i (omega (arith, size)) ∙ w .beyond i (omega (arith, pow-le-pow-left {n = 2} {m = 4} (omega arith) n)) ∙ sym (over-beyond zeros work₀ i (omega (arith, size)))

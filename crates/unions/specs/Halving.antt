@@ -8,7 +8,7 @@ use native.Mathlib.Omega.{arith}
 use lib.ListN.{length, getD, set, length-set}
 use lib.Seq.{getD-set-same, getD-set-other}
 use Rattle.sequences.specs.Induction.{strong}
-use Rattle.unions.specs.Roots.{parent, Low, root, read-parent, parent-le, low-of, root-of-top, root-of-parent, root-le}
+use Rattle.unions.specs.Roots.{parent, Low, root, read-parent, parent-le, low-of, root-of-top, root-of-parent}
 
 -- A place hung below another, smaller one of the same root.
 module _ (p : List ℕ) (low : Low p) (at q : ℕ) (inside : at < length p) (less : q < at) (same : root p q ≡ root p at) where
