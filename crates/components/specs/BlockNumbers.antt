@@ -122,8 +122,8 @@ module _ (n : ℕ) (bs : List Block) (covering : cover n 0 bs ≡ 0) where
   block-numbers-are-labels =
       ext-getD 0 (numbersBelow (rep all) (length bs)) (labels n bs) (length-numbersBelow (rep all) (length bs) ∙ sym (length-labels n bs))
       (λ i l.
-        let h : i < length bs = omega (arith, length-numbersBelow (rep all) (length bs)) in
-        numbers-at (rep all) (length bs) i h ∙ number-of-block i h)
+      let h : i < length bs = omega (arith, length-numbersBelow (rep all) (length bs)) in
+      numbers-at (rep all) (length bs) i h ∙ number-of-block i h)
 
   -- There are as many regions as blocks that represent themselves, so no more than blocks.
   pub block-count-is-regions : below (rep (blockPairs n bs (length bs))) (length bs) ≡ regions n (paint bs)

@@ -28,6 +28,11 @@ spanPairs entry ks k x (suc s) =
       | false ↦ spanPairs entry ks k (suc x) s
     ]
 
+-- Of the blocks 0 and 1 the first has the colour of block 2.
+like-coloured-only : spanPairs (λ x. x) (5 ∷ 6 ∷ 5 ∷ []) 2 0 2 ≡ pairOf 0 2 ∷ []
+unfolding spanPairs
+like-coloured-only = refl
+
 -- No pairs where a block begins in the first row, or in the first column: nothing of the image lies beyond.
 unfoldable pub unlessFirst : ℕ → List Pair → List Pair
 unlessFirst zero es = []

@@ -81,7 +81,7 @@ pub accepted-labels-equal-exactly-when-joined : (n : ℕ) (codes levels colours 
     → (i j c d : ℕ) → i < length (blocks codes levels colours) → j < length (blocks codes levels colours)
     → Within (blockAt (blocks codes levels colours) i) c → Within (blockAt (blocks codes levels colours) j) d
     → (getD (labels n (blocks codes levels colours)) i 0 ≡ getD (labels n (blocks codes levels colours)) j 0)
-      ↔ Joined n (paint (blocks codes levels colours)) c d
+    ↔ Joined n (paint (blocks codes levels colours)) c d
 accepted-labels-equal-exactly-when-joined n codes levels colours accepted i j c d a b v w =
     let bs : List Block = blocks codes levels colours in
     let covering : cover n 0 bs ≡ 0 = accepted-covers n codes levels colours accepted in

@@ -52,7 +52,7 @@ module _ {n : ℕ} {cs ls ks : List ℕ} (passes : Passes n cs ls ks) {work₀ :
     -- Off its columns, and off its rows, the entries are as they were.
     column-entry-kept : (x : ℕ) → x < 2 ^ n → ¬ ColumnOf n (blocks cs ls ks) k x → getD (stored n cs ls k work) x 0 ≡ getD work x 0
     column-entry-kept x a off =
-        fill-before (fill work (column n (getD cs k 0)) (2 ^ getD ls k 0) k) (2 ^ n + row n (getD cs k 0)) (2 ^ getD ls k 0) k x (omega arith)
+        fill-before (fill work (column n (getD cs k 0)) (2 ^ getD ls k 0) k) _ _ k x (omega arith)
         ∙ pick (decLt x (column n (getD cs k 0))) (decLt x (column n (getD cs k 0) + 2 ^ getD ls k 0))
       where
         pick : Dec (x < column n (getD cs k 0)) → Dec (x < column n (getD cs k 0) + 2 ^ getD ls k 0)
@@ -84,9 +84,9 @@ module _ {n : ℕ} {cs ls ks : List ℕ} (passes : Passes n cs ls ks) {work₀ :
 
         pick : Dec (ColumnOf n (blocks cs ls ks) k x) → getD (stored n cs ls k work) x 0 ≡ lastInColumn n (blocks cs ls ks) (suc k) x
         pick (yes c) =
-            fill-before first (2 ^ n + row n (getD cs k 0)) (2 ^ getD ls k 0) k x (omega arith)
+            fill-before first _ _ k x (omega arith)
             ∙ fill-inside work (column n (getD cs k 0)) (2 ^ getD ls k 0) k x (omega (arith, block-in-image passes k less, roomy))
-                (of-column passes k less x c .0) (of-column passes k less x c .1)
+            (of-column passes k less x c .0) (of-column passes k less x c .1)
             ∙ sym (columns-written n (blocks cs ls ks) (passes .covering) k (inside passes k less) x c)
         pick (no off) =
             let kept = other-columns-kept n (blocks cs ls ks) (passes .covering) k (inside passes k less) x a off in
@@ -103,7 +103,7 @@ module _ {n : ℕ} {cs ls ks : List ℕ} (passes : Passes n cs ls ks) {work₀ :
         pick (yes r) =
             let span = of-row passes k less y r in
             fill-inside first (2 ^ n + row n (getD cs k 0)) (2 ^ getD ls k 0) k (2 ^ n + y)
-                (omega (arith, block-in-image passes k less, roomy, length-fill work (column n (getD cs k 0)) (2 ^ getD ls k 0) k)) (omega arith) (omega arith)
+            (omega (arith, block-in-image passes k less, roomy, length-fill work (column n (getD cs k 0)) (2 ^ getD ls k 0) k)) (omega arith) (omega arith)
             ∙ sym (rows-written n (blocks cs ls ks) (passes .covering) k (inside passes k less) y r)
         pick (no off) =
             let kept = other-rows-kept n (blocks cs ls ks) (passes .covering) k (inside passes k less) y a off in
@@ -112,7 +112,7 @@ module _ {n : ℕ} {cs ls ks : List ℕ} (passes : Passes n cs ls ks) {work₀ :
     beyond-after : (i : ℕ) → 2 * 2 ^ n ≤ i → getD (stored n cs ls k work) i 0 ≡ getD work₀ i 0
     beyond-after i h =
         fill-beyond (fill work (column n (getD cs k 0)) (2 ^ getD ls k 0) k) (2 ^ n + row n (getD cs k 0)) (2 ^ getD ls k 0) k i
-            (omega (arith, block-in-image passes k less))
+        (omega (arith, block-in-image passes k less))
         ∙ fill-beyond work (column n (getD cs k 0)) (2 ^ getD ls k 0) k i (omega (arith, block-in-image passes k less))
         ∙ w .beyond i h
 
@@ -171,8 +171,8 @@ module _ {n : ℕ} {cs ls ks : List ℕ} (passes : Passes n cs ls ks) {work₀ :
   work-cleared h =
       fill-front work (2 * 4 ^ n) 0 (omega (arith, w .same-length))
       ∙ ext-getD 0 (over (replicate (2 * 4 ^ n) 0) work) (over (replicate (2 * 4 ^ n) 0) work₀)
-        (length-over zeros work (omega (arith, w .same-length, size)) ∙ w .same-length ∙ sym (length-over zeros work₀ (omega (arith, size))))
-        (λ i l. pick i (decLt i (2 * 4 ^ n)))
+      (length-over zeros work (omega (arith, w .same-length, size)) ∙ w .same-length ∙ sym (length-over zeros work₀ (omega (arith, size))))
+      (λ i l. pick i (decLt i (2 * 4 ^ n)))
     where
       zeros : List ℕ
       zeros = replicate (2 * 4 ^ n) 0

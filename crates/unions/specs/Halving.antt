@@ -24,10 +24,10 @@ module _ (p : List ℕ) (low : Low p) (at q : ℕ) (inside : at < length p) (les
   low-shortened =
       low-of (set p at q)
       (λ i.
-        elim (ℕ-discrete i at) [
-          | yes e ↦ subst (λ x. parent (set p at q) x ≤ x) (sym e) (omega (arith, parent-here))
-          | no n ↦ omega (arith, parent-elsewhere i n, parent-le p low i)
-        ])
+      elim (ℕ-discrete i at) [
+        | yes e ↦ subst (λ x. parent (set p at q) x ≤ x) (sym e) (omega (arith, parent-here))
+        | no n ↦ omega (arith, parent-elsewhere i n, parent-le p low i)
+      ])
 
   pub root-shortened : root (set p at q) ≡ root p
   root-shortened = fun-ext (strong (λ i. root (set p at q) i ≡ root p i) again)
