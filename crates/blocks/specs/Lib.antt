@@ -4,4 +4,13 @@ pub mod Alignment
 pub mod Covering
 pub mod Siblings
 pub mod Checking
+pub mod Places
 pub mod Squares
+pub mod Growing
+pub mod Merging
+pub mod Quadrants
+pub mod Growth
+pub mod Filling
+pub mod Painting
+pub mod Rasters
+pub mod RoundTrip

@@ -8,6 +8,7 @@ use native.Mathlib.Omega.{arith}
 use lib.ListN.{length, getD, drop, drop-of-length-le, length-drop}
 use lib.Dec.{eqb, ltb}
 use borrow.Author.Tests.{lt-ltb, le-ltb, eq-eqb, ne-eqb}
+use Rattle.sequences.specs.Cases.{and-stop, and-go-on, and-fail}
 use Rattle.location.specs.Levels.{topLevel}
 use Rattle.quadtree.specs.Blocks.{Block, blocks}
 use Rattle.quadtree.specs.Number.{mergeable, siblings}
@@ -39,16 +40,6 @@ mergeable-parts n cs ls ks i =
     (eqb (getD ls (i + 1) 0) (getD ls i 0)) (eqb (getD ls (i + 2) 0) (getD ls i 0)) (eqb (getD ls (i + 3) 0) (getD ls i 0))
     (eqb (getD ks (i + 1) 0) (getD ks i 0)) (eqb (getD ks (i + 2) 0) (getD ks i 0)) (eqb (getD ks (i + 3) 0) (getD ks i 0))
 
-and-no : (a b : Bool) → b ≡ false → a && b ≡ false
-and-no true b h = h
-and-no false b h = refl
-
-and-yes : (a b : Bool) → a ≡ true → a && b ≡ b
-and-yes a b h = ap (λ (t : Bool). t && b) h
-
-and-stop : (a b : Bool) → a ≡ false → a && b ≡ false
-and-stop a b h = ap (λ (t : Bool). t && b) h
-
 module _ (n : ℕ) (cs ls ks : List ℕ) (i : ℕ) where
   large : Bool
   large = ltb (getD ls i 0) n
@@ -69,20 +60,20 @@ module _ (n : ℕ) (cs ls ks : List ℕ) (i : ℕ) where
   unfolding first-child
   not-first-child small low h =
       let no-multiple = no-multiple-of-level n (getD cs i 0) (suc (getD ls i 0)) small low (omega arith) in
-      sym (parts ∙ and-no large (first-child && (fourAlike ls i && fourAlike ks i))
+      sym (parts ∙ and-fail large (first-child && (fourAlike ls i && fourAlike ks i))
       (and-stop first-child (fourAlike ls i && fourAlike ks i) (ne-eqb (getD cs i 0 % 4 ^ suc (getD ls i 0)) 0 no-multiple)))
 
   pub not-one-level : fourAlike ls i ≡ false → false ≡ mergeableAt n cs ls ks i
   not-one-level h =
-      sym (parts ∙ and-no large (first-child && (fourAlike ls i && fourAlike ks i))
-      (and-no first-child (fourAlike ls i && fourAlike ks i) (and-stop (fourAlike ls i) (fourAlike ks i) h)))
+      sym (parts ∙ and-fail large (first-child && (fourAlike ls i && fourAlike ks i))
+      (and-fail first-child (fourAlike ls i && fourAlike ks i) (and-stop (fourAlike ls i) (fourAlike ks i) h)))
 
   pub by-colour : getD cs i 0 < 2 ^ 32 → getD ls i 0 < n → getD ls i 0 < topLevel n (getD cs i 0) → fourAlike ls i ≡ true → fourAlike ks i ≡ mergeableAt n cs ls ks i
   unfolding large first-child
   by-colour small low h alike =
-      sym (parts ∙ and-yes large (first-child && (fourAlike ls i && fourAlike ks i)) (lt-ltb (getD ls i 0) n low)
-      ∙ and-yes first-child (fourAlike ls i && fourAlike ks i) (eq-eqb (getD cs i 0 % 4 ^ suc (getD ls i 0)) 0 (multiple-of-level n (getD cs i 0) (suc (getD ls i 0)) small h))
-      ∙ and-yes (fourAlike ls i) (fourAlike ks i) alike)
+      sym (parts ∙ and-go-on large (first-child && (fourAlike ls i && fourAlike ks i)) (lt-ltb (getD ls i 0) n low)
+      ∙ and-go-on first-child (fourAlike ls i && fourAlike ks i) (eq-eqb (getD cs i 0 % 4 ^ suc (getD ls i 0)) 0 (multiple-of-level n (getD cs i 0) (suc (getD ls i 0)) small h))
+      ∙ and-go-on (fourAlike ls i) (fourAlike ks i) alike)
 
 siblings-first : (n : ℕ) (a b c d : Block) (bs : List Block) → mergeable n a b c d ≡ true → siblings n (a ∷ b ∷ c ∷ d ∷ bs) ≡ true
 unfolding siblings

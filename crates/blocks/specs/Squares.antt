@@ -4,16 +4,36 @@ use mathlib.Core.Logic.{_↔_}
 use mathlib.Core.Bool.{Bool, true, false, false≢true}
 use mathlib.Core.List.{List}
 use Prim.Native.Nat.{ℕ, zero, suc, _+_, _-_, _*_, _%_, _^_, _≤_, _<_}
-use native.Mathlib.Nat.{add-mul}
+use native.Mathlib.Nat.{add-mul, mul-le-mul-right}
 use native.Mathlib.Omega.{arith}
+use native.Mathlib.Numerals.{add-one}
 use lib.ListN.{length, getD}
+use borrow.Author.Tests.{eq-eqb, ne-eqb}
 use Rattle.sequences.specs.Cases.{same-test}
+use Rattle.sequences.specs.Powers.{square-of-side}
 use Rattle.location.specs.Codes.{column, row}
 use Rattle.location.specs.Squares.{square-in-image, for-block-for-square}
 use Rattle.quadtree.specs.Quadtree.{alike}
 use Rattle.quadtree.specs.Painting.{alike-each, each-alike}
 use Rattle.quadtree.specs.Raster.{place, inCodeOrder}
 use Rattle.quadtree.specs.Orders.{in-code-order-at}
+
+-- A run of pixels, tested from its first on up to the place e.
+pub run-ended : (px : List ℕ) (v c k : ℕ) → k ≡ 0 → true ≡ alike px v c k
+unfolding alike
+run-ended px v c k h = rw h refl
+
+pub run-goes-on : (px : List ℕ) (v c e : ℕ) → c < e → getD px c 0 ≡ v → alike px v c (e - c) ≡ alike px v (c + 1) (e - (c + 1))
+unfolding alike
+run-goes-on px v c e l h =
+    let k : e - c ≡ suc (e - (c + 1)) = omega arith in
+    ap (alike px v c) k ∙ rw (eq-eqb (getD px c 0) v h, alike) (ap (λ (d : ℕ). alike px v d (e - (c + 1))) (sym (add-one c)))
+
+pub run-breaks : (px : List ℕ) (v c e : ℕ) → c < e → (getD px c 0 ≡ v → ⊥) → false ≡ alike px v c (e - c)
+unfolding alike
+run-breaks px v c e l h =
+    let k : e - c ≡ suc (e - (c + 1)) = omega arith in
+    sym (ap (alike px v c) k ∙ rw (ne-eqb (getD px c 0) v h, alike))
 
 -- Whether k rows of s pixels from the place `at` on, in a raster of rows of w, have the colour v.
 unfoldable pub rowsAlike : List ℕ → ℕ → ℕ → ℕ → ℕ → ℕ → Bool
@@ -105,3 +125,59 @@ module _ (n l c : ℕ) (level : l ≤ n) (inside : c < 4 ^ n) (multiple : c % 4 
       same-test (rowsAlike raster v (2 ^ n) (place n c) (2 ^ l) (2 ^ l)) (alike (inCodeOrder n raster) v c (4 ^ l))
       (λ h. each-alike px v c (4 ^ l) (from-codes (for-block-for-square n l c level inside multiple Painted .1 (by-pixel (rows-each raster v (2 ^ n) (place n c) (2 ^ l) (2 ^ l) h)))))
       (λ h. each-rows raster v (2 ^ n) (place n c) (2 ^ l) (2 ^ l) (from-pixels (for-block-for-square n l c level inside multiple Painted .0 (by-code (alike-each px v c (4 ^ l) h)))))
+
+-- k rows of s entries from the place `at` on, w apart, lie within a list of length `size`.
+abbrev pub RowsFit : ℕ → ℕ → ℕ → ℕ → ℕ → Type 0
+RowsFit size w at s k = (j : ℕ) → j < k → at + j * w + s ≤ size
+
+pub rows-fit-next : (size w at s k : ℕ) → RowsFit size w at s (suc k) → RowsFit size w (at + w) s k
+rows-fit-next size w at s k fit j h = omega (arith, fit (suc j) (omega arith), add-mul j 1 w)
+
+-- The squares of side s east, south and southeast of the one at `at`.
+pub record OthersFit (size w at s : ℕ) : Type 0 where
+  pub narrow : w ≤ 256
+  pub near : at + s * w + s < 2 ^ 32
+  pub east : RowsFit size w (at + s) s s
+  pub south : RowsFit size w (at + s * w) s s
+  pub southeast : RowsFit size w (at + s * w + s) s s
+
+-- A block's square lies within the raster.
+pub square-fits : (n l c : ℕ) → l ≤ n → c < 4 ^ n → c % 4 ^ l ≡ 0 → RowsFit (4 ^ n) (2 ^ n) (place n c) (2 ^ l) (2 ^ l)
+unfolding place
+square-fits n l c level inside multiple j h =
+    let s = square-in-image n l c level inside multiple in
+    let below : suc (row n c + j) * 2 ^ n ≤ 2 ^ n * 2 ^ n = mul-le-mul-right (2 ^ n) (omega arith) in
+    omega (arith, s, below, square-of-side n, add-mul (row n c + j) 1 (2 ^ n), add-mul (row n c) j (2 ^ n))
+
+-- The pass over the rows of a square, y of s rows done.
+pub record Rows (raster : List ℕ) (v w at s from y : ℕ) : Type 0 where
+  pub within : y ≤ s
+  pub fit : RowsFit (length raster) w from s (s - y)
+  pub same : rowsAlike raster v w from s (s - y) ≡ rowsAlike raster v w at s s
+
+module _ {raster : List ℕ} {v w at s : ℕ} where
+  pub rows-none : RowsFit (length raster) w at s s → Rows raster v w at s at 0
+  rows-none fit = let e : s - 0 ≡ s = omega arith in record { within = omega arith; fit = λ j h. fit j (omega arith); same = ap (rowsAlike raster v w at s) e }
+
+  module _ {from y : ℕ} (r : Rows raster v w at s from y) where
+    pub row-fits : y < s → from + s ≤ length raster
+    row-fits h = omega (arith, r .fit 0 (omega arith))
+
+    module _ (more : y < s) where
+      left : s - y ≡ suc (s - (y + 1))
+      left = omega (arith, more)
+
+      pub rows-more : alike raster v from s ≡ true → Rows raster v w at s (from + w) (y + 1)
+      rows-more h = record {
+        within = omega (arith, more);
+        fit = rows-fit-next (length raster) w from s (s - (y + 1)) (subst (RowsFit (length raster) w from s) left (r .fit));
+        same = sym (ap (rowsAlike raster v w from s) left ∙ rows-alike-row raster v w from s (s - (y + 1)) h) ∙ r .same;
+      }
+
+      pub rows-stop : alike raster v from s ≡ false → false ≡ rowsAlike raster v w at s s
+      rows-stop h = sym (ap (rowsAlike raster v w from s) left ∙ rows-alike-stop raster v w from s (s - (y + 1)) h) ∙ r .same
+
+    pub rows-all : s ≤ y → true ≡ rowsAlike raster v w at s s
+    rows-all h =
+        let e : s - y ≡ 0 = omega arith in
+        sym (ap (rowsAlike raster v w from s) e ∙ rows-alike-none raster v w from s) ∙ r .same

@@ -1,4 +1,9 @@
 -- Points, directions, walks, corners and cycle form.
+pub mod Tests
 pub mod Directions
 pub mod Walks
 pub mod CycleForm
+pub mod Straight
+pub mod Corners
+pub mod Legs
+pub mod Outlines

@@ -9,10 +9,7 @@ use Rattle.location.specs.Codes.{code, column, row}
 half-le : (a b : ℕ) → a ≤ b → a / 2 ≤ b / 2
 half-le a b h = omega arith
 
-half-lt : (k a : ℕ) → a < 2 ^ suc k → a / 2 < 2 ^ k
-half-lt k a h = omega arith
-
--- it grows in x and in y
+-- A code grows in x and in y: what lies northwest of a pixel comes before it.
 pub code-grows-in-x : (k x x′ y : ℕ) → x < x′ → x′ < 2 ^ k → code k x y < code k x′ y
 unfolding code
 code-grows-in-x zero x x′ y h l = omega arith
@@ -31,6 +28,7 @@ code-grows-in-y (suc k) x y y′ h l = pick (code-grows-in-y k (x / 2) (y / 2) (
     pick ih (inl e) = omega (arith, ap (λ z. code k (x / 2) z) e)
     pick ih (inr g) = omega (arith, ih g (omega arith))
 
+-- Codes of k digits each are below 4 ^ k, and coordinates below 2 ^ k.
 pub code-below : (k x y : ℕ) → code k x y < 4 ^ k
 unfolding code
 code-below zero x y = omega arith
@@ -46,10 +44,11 @@ unfolding row
 row-below zero c = omega arith
 row-below (suc k) c = omega (arith, row-below k (c / 4))
 
--- the two coordinates come back
+-- The lowest digit of x, that of y and the rest of a code.
 digits : (x y c : ℕ) → ((x % 2 + 2 * (y % 2) + 4 * c) % 2 ≡ x % 2) × ((x % 2 + 2 * (y % 2) + 4 * c) / 2 % 2 ≡ y % 2) × ((x % 2 + 2 * (y % 2) + 4 * c) / 4 ≡ c)
 digits x y c = omega arith
 
+-- x and y come back from their code, so no two pixels share one.
 pub column-of-code : (k x y : ℕ) → x < 2 ^ k → column k (code k x y) ≡ x
 unfolding code column
 column-of-code zero x y h = omega arith
@@ -70,6 +69,7 @@ pub code-injective : (k x y x′ y′ : ℕ) → x < 2 ^ k → y < 2 ^ k → x�
 code-injective k x y x′ y′ a b c d e =
     (sym (column-of-code k x y a) ∙ ap (column k) e ∙ column-of-code k x′ y′ c, sym (row-of-code k x y b) ∙ ap (row k) e ∙ row-of-code k x′ y′ d)
 
+-- Every number below 4 ^ k is the code of its column and row.
 pub code-of-coordinates : (k c : ℕ) → c < 4 ^ k → code k (column k c) (row k c) ≡ c
 unfolding code column row
 code-of-coordinates zero c h = omega arith

@@ -1,8 +1,8 @@
 -- Location codes and levels.
 pub mod Codes
 pub mod Interleaving
-pub mod Levels
 pub mod Splitting
-pub mod Squares
-pub mod TopLevels
 pub mod Spreading
+pub mod Squares
+pub mod Levels
+pub mod TopLevels

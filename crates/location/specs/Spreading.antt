@@ -1,6 +1,6 @@
 -- Digits of one coordinate alone: x spread to the even places of a code, and the digits of a code in its even or its odd places.
 use mathlib.Core.Path.{_≡_, refl, ap, _∙_}
-use Prim.Native.Nat.{ℕ, zero, suc, _+_, _*_, _/_, _%_, _^_}
+use Prim.Native.Nat.{ℕ, zero, suc, _+_, _*_, _/_, _%_, _^_, _<_}
 use native.Mathlib.Nat.{zero-div}
 use native.Mathlib.Omega.{arith}
 use Rattle.location.specs.Codes.{code, column, row}
@@ -11,6 +11,12 @@ pub code-from-spreads : (k x y : ℕ) → code k x y ≡ code k x 0 + 2 * code k
 unfolding code
 code-from-spreads zero x y = refl
 code-from-spreads (suc k) x y = omega (arith, code-from-spreads k (x / 2) (y / 2))
+
+-- A spread number leaves room for another in the odd places.
+pub spread-below : (k x : ℕ) → 3 * code k x 0 < 4 ^ k
+unfolding code
+spread-below zero x = omega arith
+spread-below (suc k) x = omega (arith, spread-below k (x / 2))
 
 -- Twice as many digits are spread in two halves.
 pub spread-halves : (l x : ℕ) → code (l + l) x 0 ≡ code l x 0 + 4 ^ l * code l (x / 2 ^ l) 0

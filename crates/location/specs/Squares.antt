@@ -72,12 +72,16 @@ module _ (k l c : ℕ) (level : l ≤ k) (inside : c < 4 ^ k) (multiple : c % 4 
     where
       q : ℕ
       q = c / 4 ^ l
+
       m : ℕ
       m = k - l
+
       x-below : x / 2 ^ l < 2 ^ m
       x-below = div-lt-iff-lt-mul (pow2-pos l) .1 (omega (arith, sides-apart))
+
       y-below : y / 2 ^ l < 2 ^ m
       y-below = div-lt-iff-lt-mul (pow2-pos l) .1 (omega (arith, sides-apart))
+
       to : (c ≤ code k x y) × (code k x y < c + 4 ^ l) → (column k c ≤ x) × (x < column k c + 2 ^ l) × (row k c ≤ y) × (y < row k c + 2 ^ l)
       to h =
           let same : code m (x / 2 ^ l) (y / 2 ^ l) ≡ q = sym (code-quotient x y) ∙ stretch-has-quotient (4 ^ l) q (code k x y) (pow4-pos l) (omega (arith, code-apart)) (omega (arith, code-apart)) in
@@ -86,6 +90,7 @@ module _ (k l c : ℕ) (level : l ≤ k) (inside : c < 4 ^ k) (multiple : c % 4 
           let sx = quotient-in-stretch (2 ^ l) (column m q) x (pow2-pos l) ex in
           let sy = quotient-in-stretch (2 ^ l) (row m q) y (pow2-pos l) ey in
           omega (arith, column-apart, row-apart)
+
       from : (column k c ≤ x) × (x < column k c + 2 ^ l) × (row k c ≤ y) × (y < row k c + 2 ^ l) → (c ≤ code k x y) × (code k x y < c + 4 ^ l)
       from h =
           let ex : x / 2 ^ l ≡ column m q = stretch-has-quotient (2 ^ l) (column m q) x (pow2-pos l) (omega (arith, column-apart)) (omega (arith, column-apart)) in
@@ -97,7 +102,7 @@ module _ (k l c : ℕ) (level : l ≤ k) (inside : c < 4 ^ k) (multiple : c % 4 
   -- What holds of every code of the block holds of every pixel of the square, and the other way round.
   pub for-block-for-square {ℓ} : (P : ℕ → ℕ → Type ℓ)
       → ((d : ℕ) → c ≤ d → d < c + 4 ^ l → P (column k d) (row k d))
-        ↔ ((x y : ℕ) → column k c ≤ x → x < column k c + 2 ^ l → row k c ≤ y → y < row k c + 2 ^ l → P x y)
+      ↔ ((x y : ℕ) → column k c ≤ x → x < column k c + 2 ^ l → row k c ≤ y → y < row k c + 2 ^ l → P x y)
   for-block-for-square P = (to, from)
     where
       to : ((d : ℕ) → c ≤ d → d < c + 4 ^ l → P (column k d) (row k d)) → (x y : ℕ) → column k c ≤ x → x < column k c + 2 ^ l → row k c ≤ y → y < row k c + 2 ^ l → P x y
@@ -106,6 +111,7 @@ module _ (k l c : ℕ) (level : l ≤ k) (inside : c < 4 ^ k) (multiple : c % 4 
           let hy : y < 2 ^ k = omega (arith, square-in-image) in
           let h = block-is-square x y hx hy .1 (a, b, d, e) in
           subst₂ P (column-of-code k x y hx) (row-of-code k x y hy) (f (code k x y) (h .0) (h .1))
+
       from : ((x y : ℕ) → column k c ≤ x → x < column k c + 2 ^ l → row k c ≤ y → y < row k c + 2 ^ l → P x y) → (d : ℕ) → c ≤ d → d < c + 4 ^ l → P (column k d) (row k d)
       from g d a b =
           let same : code k (column k d) (row k d) ≡ d = code-of-coordinates k d (omega (arith, square-in-image)) in

@@ -34,7 +34,7 @@ zeros-count zero (suc j) c h e = absurd (omega arith)
 zeros-count (suc k) (suc j) c h e =
     let even : c % 2 ≡ 0 = omega (arith, low-digit j c) in
     let more : j ≤ trailingZeros k (c / 2) = zeros-count k j (c / 2) (omega arith) (omega (arith, low-digit j c)) in
-    rw (even) (omega arith)
+    rw even (omega arith)
 
 -- "n for code 0", and half the number of zeros for any other.
 pub top-level-of-zero : (n c : ℕ) → c ≡ 0 → topLevel n c ≡ n
@@ -71,10 +71,10 @@ above-divides-not l m c p h e =
 pub top-level-fits : (n c : ℕ) → c < 4 ^ n → (topLevel n c ≤ n) × (c + 4 ^ topLevel n c ≤ 4 ^ n)
 top-level-fits n c h =
     let low : topLevel n c ≤ n =
-      elim (ℕ-discrete c 0) [
-        | yes z ↦ omega (arith, top-level-of-zero n c z)
-        | no z ↦ above-divides-not (topLevel n c) n c (omega arith) h (level-divides n c)
-      ]
+    elim (ℕ-discrete c 0) [
+      | yes z ↦ omega (arith, top-level-of-zero n c z)
+      | no z ↦ above-divides-not (topLevel n c) n c (omega arith) h (level-divides n c)
+    ]
     in
     (low, square-in-image n (topLevel n c) c low h (level-divides n c) .2)
 

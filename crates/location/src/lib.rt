@@ -93,5 +93,9 @@ pub fn pixels(l: u32) -> usize
 pub fn top_level(n: u32, c: u32) -> u32
     ensures { λ r. ⌜ r ≡ topLevel n c ⌝ }
 {
-    if c == 0 { n } else { u32::trailing_zeros(c) / 2 }
+    if c == 0 {
+        n
+    } else {
+        u32::trailing_zeros(c) / 2
+    }
 }

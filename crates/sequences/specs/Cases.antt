@@ -1,6 +1,7 @@
 -- The first of several causes that applies, and tests that agree.
-use mathlib.Core.Path.{_≡_, refl, sym, ap, _∙_}
-use mathlib.Core.Bool.{Bool, true, false, true≢false, false≢true}
+use mathlib.Core.Path.{_≡_, refl, sym, ap, ap₂, _∙_}
+use mathlib.Core.Bool.{Bool, true, false, _&&_, _||_, false≢true}
+use mathlib.Core.List.{List, []}
 use Prim.Native.Nat.{ℕ, zero, suc, _<_}
 use native.Mathlib.Omega.{arith}
 
@@ -47,3 +48,39 @@ pub same-test : (a b : Bool) → (a ≡ true → b ≡ true) → (b ≡ true →
 same-test true b f g = sym (f refl)
 same-test false true f g = g refl
 same-test false false f g = refl
+
+-- Two tests asked one after the other.
+pub and-stop : (a b : Bool) → a ≡ false → a && b ≡ false
+and-stop a b h = ap (λ (t : Bool). t && b) h
+
+pub and-go-on : (a b : Bool) → a ≡ true → a && b ≡ b
+and-go-on a b h = ap (λ (t : Bool). t && b) h
+
+pub and-fail : (a b : Bool) → b ≡ false → a && b ≡ false
+and-fail true b h = h
+and-fail false b h = refl
+
+pub or-right : (a b : Bool) → b ≡ true → a || b ≡ true
+or-right true b h = refl
+or-right false b h = h
+
+pub and-both : (a b : Bool) → a && b ≡ true → (a ≡ true) × (b ≡ true)
+and-both true b h = (refl, h)
+and-both false b h = absurd (false≢true h)
+
+pub both-and : (a b : Bool) → a ≡ true → b ≡ true → a && b ≡ true
+both-and a b p q = ap₂ _&&_ p q
+
+-- What is written where the number is 0; a refusal writes nothing.
+unfoldable pub ifAccepted {ℓ} : {A : Type ℓ} → ℕ → List A → List A
+ifAccepted zero written = written
+ifAccepted (suc k) written = []
+
+pub written-accepted {ℓ} : {A : Type ℓ} (number : ℕ) (written : List A) → number ≡ 0 → ifAccepted number written ≡ written
+unfolding ifAccepted
+written-accepted number written h = ap (λ (k : ℕ). ifAccepted k written) h
+
+pub written-refused {ℓ} : {A : Type ℓ} (number : ℕ) (written : List A) → 0 < number → ifAccepted number written ≡ []
+unfolding ifAccepted
+written-refused zero written h = absurd (omega arith)
+written-refused (suc k) written h = refl

@@ -1,8 +1,7 @@
--- x goes to the even places and y to the odd ones. The sum fits, since it is a code of 16 digits, below 4 ^ 16.
+-- x goes to the even places and y to the odd ones. The sum fits, since a spread number is below a third of 4 ^ 16.
 use borrow.Author.Needs.{needs}
 use native.Mathlib.Omega.{arith}
-use Rattle.location.specs.Interleaving.{code-below}
-use Rattle.location.specs.Spreading.{code-from-spreads}
+use Rattle.location.specs.Spreading.{code-from-spreads, spread-below}
 use Rattle.location.proofs.code.Statement.{statement}
 use Rattle.location.proofs.code.Tie as tie
 
@@ -13,16 +12,10 @@ spread16-requires-2 : tie.Need-spread16-requires-2
 spread16-requires-2 c κs = search needs
 
 mul-result : tie.Need-mul-result
-mul-result c =
-    let x = c .before .before .args .x in
-    let y = c .before .before .args .y in
-    omega (arith, code-from-spreads 16 x y, code-below 16 x y)
+mul-result c = omega (arith, spread-below 16 (c .before .before .args .x), spread-below 16 (c .before .before .args .y))
 
 add-result : tie.Need-add-result
-add-result c =
-    let x = c .before .before .args .x in
-    let y = c .before .before .args .y in
-    omega (arith, code-from-spreads 16 x y, code-below 16 x y)
+add-result c = omega (arith, spread-below 16 (c .before .before .args .x), spread-below 16 (c .before .before .args .y))
 
 returns : tie.Need-returns
 returns c = omega (arith, code-from-spreads 16 (c .before .before .args .x) (c .before .before .args .y))

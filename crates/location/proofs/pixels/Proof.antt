@@ -22,10 +22,10 @@ shl-result c = search needs
 returns : tie.Need-returns
 returns c =
     let l = c .before .args .l in
-    shl-exact {a = 1} 1 (2 * l) 64 (omega arith) (omega arith) ∙ one-mul (2 ^ (2 * l)) ∙ pow2-double l ∙ sym (pixels-are-power l (c .if1 .taken))
+    shl-exact {a = 1} 1 (2 * l) 64 (omega arith) (omega arith) ∙ one-mul (2 ^ (2 * l)) ∙ pow2-double l ∙ sym (pixels-are-power l (omega arith))
 
 returns-2 : tie.Need-returns-2
-returns-2 c = sym (pixels-above (c .before .args .l) (c .if1 .left))
+returns-2 c = sym (pixels-above (c .before .args .l) (omega arith))
 
 pub pixels-spec : {M : Type 1} → statement M
 pixels-spec = tie.close (tie.spec mul-result cast-result shl-result returns returns-2)

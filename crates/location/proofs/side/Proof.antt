@@ -13,10 +13,10 @@ shl-result : tie.Need-shl-result
 shl-result c = search needs
 
 returns : tie.Need-returns
-returns c = let l = c .before .args .l in shl-exact {a = 1} 1 l 64 (omega arith) (omega arith) ∙ one-mul (2 ^ l) ∙ sym (side-is-power l (c .if1 .taken))
+returns c = let l = c .before .args .l in shl-exact {a = 1} 1 l 64 (omega arith) (omega arith) ∙ one-mul (2 ^ l) ∙ sym (side-is-power l (omega arith))
 
 returns-2 : tie.Need-returns-2
-returns-2 c = sym (side-above (c .before .args .l) (c .if1 .left))
+returns-2 c = sym (side-above (c .before .args .l) (omega arith))
 
 pub side-spec : {M : Type 1} → statement M
 side-spec = tie.close (tie.spec shl-result returns returns-2)

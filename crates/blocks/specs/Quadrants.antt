@@ -1,0 +1,90 @@
+-- The four quadrants of a square one level up: where they lie in the raster, and when they have one colour.
+use mathlib.Core.Path.{_≡_, refl, sym, ap, ap₂, _∙_, subst}
+use mathlib.Core.Bool.{Bool, true, false, _&&_}
+use mathlib.Core.List.{List}
+use Prim.Native.Nat.{ℕ, zero, suc, _+_, _-_, _*_, _/_, _%_, _^_, _≤_, _<_, _∣_}
+use native.Mathlib.Nat.{add-mul, dvd-add, dvd-mul-left, dvd-trans, dvd-of-mod-eq-zero, mod-eq-zero-of-dvd}
+use native.Mathlib.Numerals.{add-one}
+use native.Mathlib.Omega.{arith}
+use lib.ListN.{length, getD}
+use Rattle.sequences.specs.Powers.{pow4-divides, pow4-pos, pow2-mono, pow4-mono, square-of-side}
+use Rattle.location.specs.Codes.{column, row}
+use Rattle.location.specs.Squares.{square-in-image, quadrant-column, quadrant-row}
+use Rattle.quadtree.specs.Quadtree.{alike}
+use Rattle.quadtree.specs.Raster.{place, inCodeOrder}
+use Rattle.quadtree.specs.Orders.{place-in}
+use Rattle.blocks.specs.Squares.{rowsAlike, RowsFit, OthersFit, square-alike, square-fits}
+use Rattle.blocks.specs.Growing.{othersAlike, square-grows}
+
+-- A multiple of a power is a multiple of every lower one.
+pub lower-multiple : (c i j : ℕ) → i ≤ j → c % 4 ^ j ≡ 0 → c % 4 ^ i ≡ 0
+lower-multiple c i j h m = mod-eq-zero-of-dvd (4 ^ i) (dvd-trans (4 ^ i) (pow4-divides h) (dvd-of-mod-eq-zero (4 ^ j) m))
+
+module _ (n l c : ℕ) (level : l + 1 ≤ n) (inside : c < 4 ^ n) (multiple : c % 4 ^ (l + 1) ≡ 0) where
+  four : 4 ^ (l + 1) ≡ 4 * 4 ^ l
+  four = ap (λ (k : ℕ). 4 ^ k) (add-one l) ∙ omega arith
+
+  quarter : (i : ℕ) → i < 4 → i * 4 ^ l + 4 ^ l ≤ 4 ^ (l + 1)
+  quarter zero h = omega (arith, four)
+  quarter (suc zero) h = omega (arith, four)
+  quarter (suc (suc zero)) h = omega (arith, four)
+  quarter (suc (suc (suc zero))) h = omega (arith, four)
+  quarter (suc (suc (suc (suc i)))) h = absurd (omega arith)
+
+  quadrant-inside : (i : ℕ) → i < 4 → c + i * 4 ^ l < 4 ^ n
+  quadrant-inside i h = omega (arith, quarter i h, pow4-pos l, square-in-image n (l + 1) c level inside multiple)
+
+  quadrant-multiple : (i : ℕ) → (c + i * 4 ^ l) % 4 ^ l ≡ 0
+  quadrant-multiple i =
+      mod-eq-zero-of-dvd (4 ^ l) (dvd-add (4 ^ l) (dvd-of-mod-eq-zero (4 ^ l) (lower-multiple c l (l + 1) (omega arith) multiple)) (dvd-mul-left (4 ^ l) i))
+
+  quadrant-place : (i : ℕ) → i < 4 → place n (c + i * 4 ^ l) ≡ place n c + i / 2 * 2 ^ l * 2 ^ n + i % 2 * 2 ^ l
+  unfolding place
+  quadrant-place i h =
+      let ex = quadrant-column n l c i level multiple h in
+      let ey = quadrant-row n l c i level multiple h in
+      omega (arith, ex, ap (λ (y : ℕ). y * 2 ^ n) ey, add-mul (row n c) (i / 2 * 2 ^ l) (2 ^ n))
+
+  east-place : place n (c + 1 * 4 ^ l) ≡ place n c + 2 ^ l
+  east-place = quadrant-place 1 (omega arith) ∙ omega arith
+
+  south-place : place n (c + 2 * 4 ^ l) ≡ place n c + 2 ^ l * 2 ^ n
+  south-place =
+      let e : 2 / 2 * 2 ^ l ≡ 2 ^ l = omega arith in
+      omega (arith, quadrant-place 2 (omega arith), ap (λ (s : ℕ). s * 2 ^ n) e)
+
+  southeast-place : place n (c + 3 * 4 ^ l) ≡ place n c + 2 ^ l * 2 ^ n + 2 ^ l
+  southeast-place =
+      let e : 3 / 2 * 2 ^ l ≡ 2 ^ l = omega arith in
+      omega (arith, quadrant-place 3 (omega arith), ap (λ (s : ℕ). s * 2 ^ n) e)
+
+  fits-at : (i at : ℕ) → i < 4 → place n (c + i * 4 ^ l) ≡ at → RowsFit (4 ^ n) (2 ^ n) at (2 ^ l) (2 ^ l)
+  fits-at i at h e =
+      subst (λ (p : ℕ). RowsFit (4 ^ n) (2 ^ n) p (2 ^ l) (2 ^ l)) e (square-fits n l (c + i * 4 ^ l) (omega arith) (quadrant-inside i h) (quadrant-multiple i))
+
+  pub others-fit : n ≤ 8 → (size : ℕ) → size ≡ 4 ^ n → OthersFit size (2 ^ n) (place n c) (2 ^ l)
+  others-fit small size e = subst (λ (k : ℕ). OthersFit k (2 ^ n) (place n c) (2 ^ l)) (sym e) (record {
+    narrow = pow2-mono small;
+    near = omega (arith, southeast-place, place-in n (c + 3 * 4 ^ l), pow4-mono small);
+    east = fits-at 1 (place n c + 2 ^ l) (omega arith) east-place;
+    south = fits-at 2 (place n c + 2 ^ l * 2 ^ n) (omega arith) south-place;
+    southeast = fits-at 3 (place n c + 2 ^ l * 2 ^ n + 2 ^ l) (omega arith) southeast-place;
+  })
+
+  alike-at : (raster : List ℕ) (v i at : ℕ) → i < 4 → place n (c + i * 4 ^ l) ≡ at
+      → rowsAlike raster v (2 ^ n) at (2 ^ l) (2 ^ l) ≡ alike (inCodeOrder n raster) v (c + i * 4 ^ l) (4 ^ l)
+  alike-at raster v i at h e =
+      ap (λ (p : ℕ). rowsAlike raster v (2 ^ n) p (2 ^ l) (2 ^ l)) (sym e)
+      ∙ square-alike n l (c + i * 4 ^ l) (omega arith) (quadrant-inside i h) (quadrant-multiple i) raster v
+
+  -- The three squares beside a block of one colour have its colour exactly where the square one level up has one.
+  pub others-by-codes : (raster : List ℕ) (v : ℕ) → alike (inCodeOrder n raster) v c (4 ^ l) ≡ true
+      → rowsAlike raster v (2 ^ n) (place n c + 2 ^ l) (2 ^ l) (2 ^ l)
+      && (rowsAlike raster v (2 ^ n) (place n c + 2 ^ l * 2 ^ n) (2 ^ l) (2 ^ l) && rowsAlike raster v (2 ^ n) (place n c + 2 ^ l * 2 ^ n + 2 ^ l) (2 ^ l) (2 ^ l))
+      ≡ alike (inCodeOrder n raster) v c (4 ^ (l + 1))
+  unfolding othersAlike
+  others-by-codes raster v first =
+      ap₂ _&&_ (alike-at raster v 1 (place n c + 2 ^ l) (omega arith) east-place)
+      (ap₂ _&&_ (alike-at raster v 2 (place n c + 2 ^ l * 2 ^ n) (omega arith) south-place)
+      (alike-at raster v 3 (place n c + 2 ^ l * 2 ^ n + 2 ^ l) (omega arith) southeast-place))
+      ∙ sym (square-grows (inCodeOrder n raster) v c l first)

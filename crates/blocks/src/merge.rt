@@ -1,0 +1,48 @@
+// A raster merged into blocks: from each code on the largest block of one colour that may start there.
+use crate::squares::others_alike;
+use crate::squares::place;
+ghost use mathlib.Core.Path.{_≡_};
+ghost use Prim.Native.Nat.{_+_, _^_, _≤_, _<_};
+ghost use lib.ListN.{length};
+ghost use Rattle.quadtree.specs.Raster.{inCodeOrder};
+ghost use Rattle.quadtree.specs.Merging.{blockAt};
+ghost use Rattle.blocks.specs.Merging.{RasterOf, Room, Merged};
+
+// The level of the block that starts at the code c: it grows while the three squares beside it have its colour, up to
+// the level that the zeros ending the code leave open.
+fn level_at(n: u32, raster: &[u8], c: u32) -> u32
+    requires { ⌜ RasterOf n (now raster) × (c < 4 ^ n) ⌝ }
+    ensures { λ r. ⌜ r ≡ blockAt n (inCodeOrder n (now (raster .entry))) c .level ⌝ }
+{
+    let top = location::top_level(n, c);
+    let w = location::side(n);
+    let at = place(n, c);
+    let v = raster[at];
+    let mut l: u32 = 0;
+    while l < top {
+        if !others_alike(raster, w, at, location::side(l), v) {
+            return l;
+        }
+        l += 1;
+    }
+    l
+}
+
+// Writes the blocks of the raster and returns their number.
+pub(crate) fn merge(n: u32, raster: &[u8], codes: &mut [u32], levels: &mut [u8], colours: &mut [u8]) -> usize
+    requires { ⌜ Room n (now raster) (now codes) (now levels) (now colours) ⌝ }
+    ensures { λ r. ⌜ Merged n (now (raster .entry)) (now (codes .entry)) (now (levels .entry)) (now (colours .entry)) (now (codes .exit)) (now (levels .exit)) (now (colours .exit)) r ⌝ }
+{
+    let mut count: usize = 0;
+    let mut c: usize = 0;
+    while c < raster.len() {
+        let code = c as u32;
+        let level = level_at(n, raster, code);
+        codes[count] = code;
+        levels[count] = level as u8;
+        colours[count] = raster[place(n, code)];
+        count += 1;
+        c += location::pixels(level);
+    }
+    count
+}

@@ -1,0 +1,53 @@
+// A raster painted block by block.
+use crate::squares::place;
+ghost use mathlib.Core.Path.{_≡_};
+ghost use Prim.Native.Nat.{_+_, _≤_, _<_};
+ghost use lib.ListN.{length};
+ghost use Rattle.sequences.specs.Over.{over};
+ghost use Rattle.quadtree.specs.Blocks.{blocks, paint};
+ghost use Rattle.quadtree.specs.Raster.{inRows};
+ghost use Rattle.blocks.specs.Squares.{RowsFit};
+ghost use Rattle.blocks.specs.Filling.{RunFilled, RowsFilled};
+ghost use Rattle.blocks.specs.Painting.{Paintable};
+
+// Gives the s pixels from the place `from` on the colour v.
+fn fill_run(raster: &mut [u8], from: usize, s: usize, v: u8)
+    requires { ⌜ from + s ≤ length (now raster) ⌝ }
+    ensures { λ _. ⌜ RunFilled from s v (now (raster .entry)) (now (raster .exit)) ⌝ }
+{
+    let end = from + s;
+    let mut i = from;
+    while i < end {
+        raster[i] = v;
+        i += 1;
+    }
+}
+
+// Gives the square of s rows of s pixels at the place `at`, in rows of w, the colour v.
+fn fill_square(raster: &mut [u8], w: usize, at: usize, s: usize, v: u8)
+    requires { ⌜ (w ≤ 256) × RowsFit (length (now raster)) w at s s ⌝ }
+    ensures { λ _. ⌜ RowsFilled w at s s v (now (raster .entry)) (now (raster .exit)) ⌝ }
+{
+    let mut from = at;
+    let mut y: usize = 0;
+    while y < s {
+        fill_run(raster, from, s, v);
+        from += w;
+        y += 1;
+    }
+}
+
+// Paints the image of an accepted list, row by row.
+pub(crate) fn paint(n: u32, codes: &[u32], levels: &[u8], colours: &[u8], raster: &mut [u8])
+    requires { ⌜ Paintable n (now codes) (now levels) (now colours) (now raster) ⌝ }
+    ensures { λ _. ⌜ now (raster .exit) ≡ over (inRows n (paint (blocks (now (codes .entry)) (now (levels .entry)) (now (colours .entry))))) (now (raster .entry)) ⌝ }
+{
+    let w = location::side(n);
+    let mut i: usize = 0;
+    while i < codes.len() {
+        let s = location::side(levels[i] as u32);
+        let at = place(n, codes[i]);
+        fill_square(raster, w, at, s, colours[i]);
+        i += 1;
+    }
+}

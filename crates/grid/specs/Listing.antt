@@ -1,0 +1,75 @@
+-- The listing of all cycles: their order, owners, ends and corners.
+use mathlib.Core.Bool.{Bool, true, false}
+use mathlib.Core.List.{List, [], _∷_, _++_, map, flatMap}
+use Prim.Native.Nat.{ℕ, zero, suc, _+_, _^_}
+use lib.ListN.{length, getD}
+use lib.Dec.{eqb}
+use Rattle.sequences.specs.Ranges.{range}
+use Rattle.lattice.specs.Walks.{corners}
+use Rattle.grid.specs.Cycles.{cycle, isStart}
+
+-- The numbers of a list that pass a test, in their order.
+unfoldable pub keep : (ℕ → Bool) → List ℕ → List ℕ
+keep test [] = []
+keep test (x ∷ xs) = elim (test x) [ true ↦ x ∷ keep test xs | false ↦ keep test xs ]
+
+-- The pixel with the code c lies in the region r, and a cycle starts at it.
+unfoldable pub startsIn : ℕ → List ℕ → ℕ → ℕ → Bool
+unfolding isStart
+startsIn n nums r c = elim (eqb (getD nums c 0) r) [ true ↦ isStart n nums c | false ↦ false ]
+
+-- The codes of the start pixels of the cycles of the region r, in rising order.
+unfoldable pub starts : ℕ → List ℕ → ℕ → List ℕ
+unfolding keep startsIn range
+starts n nums r = keep (startsIn n nums r) (range 0 (4 ^ n))
+
+-- "Cycles are listed by region number, then by the code of that start pixel" (document 01, "Outlines"): the start pixels of all
+-- cycles of the first `regions` regions, in the order of the listing.
+unfoldable pub startCodes : ℕ → List ℕ → ℕ → List ℕ
+unfolding flatMap starts range
+startCodes n nums regions = flatMap (starts n nums) (range 0 regions)
+
+-- A cycle: the region it bounds, and its corners from its start.
+pub record Cycle : Type 0 where
+  pub region : ℕ
+  pub points : List ℕ
+
+unfoldable pub cycleAt : ℕ → List ℕ → ℕ → Cycle
+unfolding corners cycle
+cycleAt n nums c = record { region = getD nums c 0; points = corners (cycle n nums c) }
+
+unfoldable pub listing : ℕ → List ℕ → ℕ → List Cycle
+unfolding startCodes cycleAt
+listing n nums regions = map (cycleAt n nums) (startCodes n nums regions)
+
+-- "For each cycle the owner list holds its region, the end list the index after its last corner. .. the corner list holds them
+-- cycle after cycle" (document 01, "Outlines"). The first cycle of the list begins at the index `at`.
+unfoldable pub owners : List Cycle → List ℕ
+owners [] = []
+owners (c ∷ cs) = c .region ∷ owners cs
+
+unfoldable pub endsFrom : ℕ → List Cycle → List ℕ
+endsFrom at [] = []
+endsFrom at (c ∷ cs) = (at + length (c .points)) ∷ endsFrom (at + length (c .points)) cs
+
+unfoldable pub ends : List Cycle → List ℕ
+unfolding endsFrom
+ends cs = endsFrom 0 cs
+
+unfoldable pub allCorners : List Cycle → List ℕ
+allCorners [] = []
+allCorners (c ∷ cs) = c .points ++ allCorners cs
+
+-- The corners of the cycle k of a list.
+unfoldable pub pointsAt : List Cycle → ℕ → List ℕ
+pointsAt [] k = []
+pointsAt (c ∷ cs) zero = c .points
+pointsAt (c ∷ cs) (suc k) = pointsAt cs k
+
+-- "The counts are those of the regions, of the cycles, and of the corners of all cycles" (document 01, "Outlines").
+unfoldable pub cycleCount : List Cycle → ℕ
+cycleCount cs = length cs
+
+unfoldable pub cornerCount : List Cycle → ℕ
+unfolding allCorners
+cornerCount cs = length (allCorners cs)

@@ -1,0 +1,47 @@
+-- Tests that hold together.
+use mathlib.Core.Path.{_≡_, refl, sym, ap, ap₂, _∙_}
+use mathlib.Core.Bool.{Bool, true, false, not, _&&_, false≢true, true≢false}
+use Prim.Native.Nat.{ℕ, zero, suc, _+_, _%_}
+use native.Mathlib.Decide.{ℕ-discrete}
+use native.Mathlib.Omega.{arith}
+use lib.Dec.{eqb}
+use borrow.Author.Tests.{eq-eqb, ne-eqb}
+
+pub and-both : (a b : Bool) → (a && b) ≡ true → (a ≡ true) × (b ≡ true)
+and-both true b h = (refl, h)
+and-both false b h = absurd (false≢true h)
+
+pub and-true-true : (a b : Bool) → a ≡ true → b ≡ true → (a && b) ≡ true
+and-true-true a b h k = ap₂ (λ (x y : Bool). x && y) h k
+
+-- A test that is met before the other is asked.
+pub then-both : (a b : Bool) → _≡_ {A = Bool} (elim a [ true ↦ b | false ↦ false ]) true → (a ≡ true) × (b ≡ true)
+then-both true b h = (refl, h)
+then-both false b h = absurd (false≢true h)
+
+pub not-flips : (b : Bool) → not b ≡ true → b ≡ false
+not-flips true h = absurd (false≢true h)
+not-flips false h = refl
+
+-- An even number.
+unfoldable pub isEven : ℕ → Bool
+isEven n = eqb (n % 2) 0
+
+pub zero-even : isEven 0 ≡ true
+unfolding isEven
+zero-even = refl
+
+pub even-yes : (n : ℕ) → n % 2 ≡ 0 → isEven n ≡ true
+unfolding isEven
+even-yes n h = eq-eqb (n % 2) 0 h
+
+pub even-not : (n : ℕ) → n % 2 ≡ 1 → isEven n ≡ false
+unfolding isEven
+even-not n h = ne-eqb (n % 2) 0 (omega arith)
+
+pub even-next : (n : ℕ) → isEven (n + 1) ≡ not (isEven n)
+even-next n =
+    elim (ℕ-discrete (n % 2) 0) [
+      | yes h ↦ even-not (n + 1) (omega arith) ∙ ap not (sym (even-yes n h))
+      | no h ↦ even-yes (n + 1) (omega arith) ∙ ap not (sym (even-not n (omega arith)))
+    ]

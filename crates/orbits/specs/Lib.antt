@@ -1,0 +1,6 @@
+-- The pigeonhole, members of lists, iterates and orbits, starts of orbits.
+pub mod Pigeon
+pub mod Members
+pub mod Orbits
+pub mod Starts
+pub mod Ahead

@@ -1,0 +1,76 @@
+use mathlib.Core.Path.{refl, ap}
+use Prim.Native.Nat.{_-_, _≤_, _<_}
+use native.Mathlib.Omega.{arith}
+use lib.ListN.{length, getD}
+use Rattle.paths.specs.Stretch.{beginOf, endOf, place-none, place-some, none-of-count, none-of-ends, none-backward, none-past, some-stretch}
+use borrow.Author.Needs.{needs}
+use Rattle.paths.proofs.cycle_place.Statement.{statement}
+use Rattle.paths.proofs.cycle_place.Tie as tie
+use Rattle.paths.proofs.cycle_place.Reads as reads
+use Rattle.paths.proofs.cycle_place.Lts as lts
+use Rattle.paths.proofs.begin.Reads as begin-reads
+
+-- src/lib.rt:69:9
+returns : tie.Need-returns
+returns c = let a = c .before .before .before .args in place-none _ refl refl (none-of-count (length (a .corners .now)) (a .ends .now) (a .count) (a .k) (c .if1 .taken))
+
+-- src/lib.rt:73:9
+returns-2 : tie.Need-returns-2
+returns-2 c = let a = c .before .before .before .before .args in place-none _ refl refl (none-of-ends (length (a .corners .now)) (a .ends .now) (a .count) (a .k) (c .before .if1 .left) (c .if2 .taken))
+
+-- src/lib.rt:75:9
+begin-requires : tie.Need-begin-requires
+begin-requires c κs = search needs
+
+-- src/lib.rt:76:13
+mul-e : tie.Need-mul-e
+mul-e c = search needs
+
+-- src/lib.rt:76:13
+shared-slice-read-e : tie.Need-shared-slice-read-e
+shared-slice-read-e c = search needs
+
+-- src/lib.rt:76:13
+cast-e : tie.Need-cast-e
+cast-e c = omega (arith, c .shared-slice-known3 .given (c .before .before .before .before .before .before .args .k))
+
+-- src/lib.rt:78:9
+returns-3 : tie.Need-returns-3
+unfolding endOf
+returns-3 c =
+    let a = c .before .before .before .before .before .before .before .args in
+    let b = c .before .before .begin .ensures in
+    let back : endOf (a .ends .now) (a .k) < beginOf (a .ends .now) (a .k) = omega (arith, b, c .if3 .taken) in
+    place-none _ refl refl (none-backward (length (a .corners .now)) (a .ends .now) (a .count) (a .k) (c .before .before .before .before .if1 .left) (c .before .before .before .if2 .left) back)
+
+-- src/lib.rt:81:9
+returns-4 : tie.Need-returns-4
+unfolding endOf
+returns-4 c =
+    let a = c .before .before .before .before .before .before .before .before .args in
+    let b = c .before .before .before .begin .ensures in
+    let on : beginOf (a .ends .now) (a .k) ≤ endOf (a .ends .now) (a .k) = omega (arith, b, c .before .if3 .left) in
+    place-none _ refl refl (none-past (length (a .corners .now)) (a .ends .now) (a .count) (a .k) (c .before .before .before .before .before .if1 .left) (c .before .before .before .before .if2 .left) on (c .if4 .taken))
+
+-- src/lib.rt:61:1
+returns-5 : tie.Need-returns-5
+unfolding endOf
+returns-5 c =
+    let a = c .before .before .before .before .before .before .before .before .args in
+    let b = c .before .before .before .begin .ensures in
+    let on : beginOf (a .ends .now) (a .k) ≤ endOf (a .ends .now) (a .k) = omega (arith, b, c .before .if3 .left) in
+    place-some _ b (ap (λ x. getD (a .ends .now) (a .k) 0 - x) b) (some-stretch (length (a .corners .now)) (a .ends .now) (a .count) (a .k) (c .before .before .before .before .before .if1 .left) (c .before .before .before .before .if2 .left) on (c .if4 .left))
+
+pub cycle-place-spec : {M : Type 1} → statement M
+cycle-place-spec =
+    tie.close
+    (tie.spec
+    returns
+    returns-2
+    begin-requires
+    mul-e
+    shared-slice-read-e
+    cast-e
+    returns-3
+    returns-4
+    returns-5)

@@ -1,0 +1,12 @@
+-- Path data, chains and stretches.
+pub mod Scan
+pub mod Decimal
+pub mod Answers
+pub mod Stores
+pub mod Underway
+pub mod Svg
+pub mod Stretch
+pub mod Chain
+pub mod ChainForm
+pub mod Reading
+pub mod Counting

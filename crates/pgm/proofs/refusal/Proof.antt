@@ -1,0 +1,12 @@
+-- The definition's own fields.
+use mathlib.Core.Path.{refl}
+use Rattle.pgm.specs.Picture.{refusal}
+use Rattle.pgm.proofs.refusal.Statement.{statement}
+use Rattle.pgm.proofs.refusal.Tie as tie
+
+returns : tie.Need-returns
+unfolding refusal
+returns c = refl
+
+pub refusal-spec : {M : Type 1} → statement M
+refusal-spec = tie.close (tie.spec returns)

@@ -1,0 +1,40 @@
+/* Calls each function through include/nettlestair.h: the header says what the library takes and gives. */
+#include <nettlestair.h>
+#include <stdio.h>
+#include <string.h>
+
+static int failures = 0;
+
+static void expect(const char *what, int holds) {
+    if (!holds) {
+        printf("tests/header.c: %s\n", what);
+        failures++;
+    }
+}
+
+int main(void) {
+    /* figure 5(b) */
+    const uint8_t raster[16] = {1, 1, 1, 1, 1, 2, 1, 1, 1, 1, 3, 3, 1, 1, 3, 3};
+    const uint32_t codes[7] = {0, 1, 2, 3, 4, 8, 12};
+    const uint8_t levels[7] = {0, 0, 0, 0, 1, 1, 1}, colours[7] = {1, 1, 1, 2, 1, 1, 3};
+    uint32_t c[16];
+    uint8_t l[16], k[16], r[17];
+    memset(r, 99, sizeof r);
+
+    expect("check", nettlestair_check(2, codes, 7, levels, 7, colours, 7) == 0);
+    expect("check, lists of unlike lengths", nettlestair_check(2, codes, 7, levels, 6, colours, 7) == 2);
+    expect("check, an empty list", nettlestair_check(2, codes, 0, levels, 0, colours, 0) == 6);
+
+    struct nettlestair_written w = nettlestair_blocks_from_raster(2, raster, 16, c, 16, l, 16, k, 16);
+    expect("blocks from raster, answer", w.number == 0 && w.count == 7);
+    expect("blocks from raster, lists", !memcmp(c, codes, sizeof codes) && !memcmp(l, levels, 7) && !memcmp(k, colours, 7));
+
+    w = nettlestair_raster_from_blocks(2, codes, 7, levels, 7, colours, 7, r, 17);
+    expect("raster from blocks, answer", w.number == 0 && w.count == 16);
+    expect("raster from blocks, raster", !memcmp(r, raster, 16) && r[16] == 99);
+
+    w = nettlestair_raster_from_blocks(2, codes, 7, levels, 7, colours, 7, r, 15);
+    expect("raster from blocks, too short", w.number == 8 && w.count == 0);
+
+    return failures != 0;
+}

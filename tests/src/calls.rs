@@ -1,0 +1,102 @@
+//! Calls of the library with lent lists full of garbage, and what the lists must hold afterwards.
+
+use crate::compare::difference;
+use crate::lent::{Entry, Lent};
+use crate::library::{self, refused, Written};
+use crate::model::blocks::Blocks;
+use crate::random::Random;
+use std::fmt::{Debug, Display};
+use std::hint::black_box;
+
+/// Raster to blocks, after a call.
+pub struct BlocksOut {
+    pub written: Written,
+    pub codes: Lent<u32>,
+    pub levels: Lent<u8>,
+    pub colours: Lent<u8>,
+}
+
+impl BlocksOut {
+    /// Lends lists of the given lengths for codes, levels and colours.
+    pub fn call(random: &mut Random, n: u32, raster: &[u8], lengths: [usize; 3]) -> BlocksOut {
+        let before = raster.to_vec();
+        let mut codes = Lent::new(random, lengths[0]);
+        let mut levels = Lent::new(random, lengths[1]);
+        let mut colours = Lent::new(random, lengths[2]);
+        let written = library::blocks_from_raster(n, black_box(raster), codes.lend(), levels.lend(), colours.lend());
+        unchanged("raster", &before, black_box(raster));
+        BlocksOut { written, codes, levels, colours }
+    }
+
+    /// What differs from an acceptance with these blocks: the answer or an entry, also one that should be as it was.
+    pub fn difference(&self, blocks: &Blocks) -> Option<String> {
+        self.differs(Written { number: 0, count: blocks.len() as u32 }, blocks)
+    }
+
+    /// What differs from a refusal with this number.
+    pub fn difference_from_refusal(&self, number: u32) -> Option<String> {
+        self.differs(refused(number), &Blocks::default())
+    }
+
+    fn differs(&self, written: Written, blocks: &Blocks) -> Option<String> {
+        answer(written, self.written)
+            .or_else(|| self.codes.difference(&blocks.codes).map(|d| format!("codes, {d}")))
+            .or_else(|| self.levels.difference(&blocks.levels).map(|d| format!("levels, {d}")))
+            .or_else(|| self.colours.difference(&blocks.colours).map(|d| format!("colours, {d}")))
+    }
+}
+
+/// A function that writes one list, after a call.
+pub struct Out<T> {
+    pub written: Written,
+    pub list: Lent<T>,
+}
+
+impl<T: Entry> Out<T> {
+    /// Lends a list of the given length to `function`.
+    pub fn of(random: &mut Random, length: usize, function: impl FnOnce(&mut [T]) -> Written) -> Out<T> {
+        let mut list = Lent::new(random, length);
+        let written = function(list.lend());
+        Out { written, list }
+    }
+
+    /// What differs from an acceptance with these entries.
+    pub fn difference(&self, entries: &[T]) -> Option<String> {
+        self.differs(Written { number: 0, count: entries.len() as u32 }, entries)
+    }
+
+    /// What differs from a refusal with this number.
+    pub fn difference_from_refusal(&self, number: u32) -> Option<String> {
+        self.differs(refused(number), &[])
+    }
+
+    fn differs(&self, written: Written, entries: &[T]) -> Option<String> {
+        answer(written, self.written).or_else(|| self.list.difference(entries).map(|d| d.to_string()))
+    }
+}
+
+/// Blocks to raster, with a raster of the given length.
+pub fn raster_from_blocks(random: &mut Random, n: u32, blocks: &Blocks, length: usize) -> Out<u8> {
+    let before = blocks.clone();
+    let Blocks { codes, levels, colours } = black_box(blocks);
+    let out = Out::of(random, length, |raster| library::raster_from_blocks(n, codes, levels, colours, raster));
+    unchanged("codes", &before.codes, black_box(codes));
+    unchanged("levels", &before.levels, black_box(levels));
+    unchanged("colours", &before.colours, black_box(colours));
+    out
+}
+
+/// Fails where there is a difference.
+pub fn agrees(what: impl Display, difference: Option<String>) {
+    if let Some(d) = difference {
+        panic!("{what}: {d}");
+    }
+}
+
+fn answer(expected: Written, found: Written) -> Option<String> {
+    (expected != found).then(|| format!("answer: expected {expected:?}, found {found:?}"))
+}
+
+fn unchanged<T: Copy + PartialEq + Debug>(list: &str, before: &[T], after: &[T]) {
+    agrees(format_args!("the {list} handed in"), difference(before, after).map(|d| d.to_string()));
+}

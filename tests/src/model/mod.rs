@@ -1,0 +1,3 @@
+//! A second implementation of document 01, written from its words and apart from the proved code.
+
+pub mod blocks;

@@ -1,0 +1,360 @@
+//! Causes 1 to 8 of block lists: each alone, each pair that can occur together, and their order.
+
+use std::collections::BTreeSet;
+use tests::calls::{agrees, raster_from_blocks};
+use tests::cases::Cases;
+use tests::library::check;
+use tests::model::blocks::{conditions, number, paint, quadtree, Blocks};
+use tests::random::Random;
+use tests::rasters;
+
+/// Holds the check and blocks to raster to one number, with a raster that is long enough and with shorter ones: 8 is looked
+/// for after 1 to 7.
+fn judged(what: &str, random: &mut Random, n: u32, blocks: &Blocks, expected: u32) {
+    let Blocks { codes, levels, colours } = blocks;
+    assert_eq!(check(n, codes, levels, colours), expected, "{what}: check of n = {n}, {blocks}");
+    let need = if n > 8 { 16 } else { 1 << (2 * n) };
+    for length in [need, need - 1, 0] {
+        let out = raster_from_blocks(random, n, blocks, length);
+        let difference = match expected {
+            0 if length == need => out.difference(&paint(n, blocks)),
+            0 => out.difference_from_refusal(8),
+            _ => out.difference_from_refusal(expected),
+        };
+        agrees(format_args!("{what}: raster of {length} from n = {n}, {blocks}"), difference);
+    }
+}
+
+/// A block list whose causes are known.
+struct Row {
+    what: &'static str,
+    n: u32,
+    /// code, level, colour
+    blocks: &'static [(u32, u8, u8)],
+    /// The causes whose condition holds somewhere in the list.
+    causes: &'static [u32],
+    /// The one that is answered.
+    number: u32,
+}
+
+const ROWS: &[Row] = &[
+    // accepted
+    Row { what: "one pixel", n: 0, blocks: &[(0, 0, 255)], causes: &[], number: 0 },
+    Row { what: "four colours", n: 1, blocks: &[(0, 0, 1), (1, 0, 2), (2, 0, 3), (3, 0, 4)], causes: &[], number: 0 },
+    Row {
+        what: "four of a colour that do not start at a multiple",
+        n: 2,
+        blocks: &[
+            (0, 0, 1),
+            (1, 0, 2),
+            (2, 0, 2),
+            (3, 0, 2),
+            (4, 0, 2),
+            (5, 0, 1),
+            (6, 0, 2),
+            (7, 0, 2),
+            (8, 1, 2),
+            (12, 1, 2),
+        ],
+        causes: &[],
+        number: 0,
+    },
+    // alone
+    Row { what: "1", n: 9, blocks: &[(0, 9, 1)], causes: &[1], number: 1 },
+    Row { what: "3", n: 1, blocks: &[(0, 2, 1)], causes: &[3], number: 3 },
+    Row {
+        what: "4, a code too large",
+        n: 1,
+        blocks: &[(0, 0, 1), (1, 0, 2), (2, 0, 1), (4, 0, 2)],
+        causes: &[4],
+        number: 4,
+    },
+    Row {
+        what: "4, a code too small",
+        n: 1,
+        blocks: &[(0, 0, 1), (1, 0, 2), (1, 0, 1), (3, 0, 2)],
+        causes: &[4],
+        number: 4,
+    },
+    Row { what: "4, a block after a full image", n: 1, blocks: &[(0, 1, 1), (4, 0, 2)], causes: &[4], number: 4 },
+    Row { what: "4, 65536 more than the sum", n: 8, blocks: &[(65536, 8, 1)], causes: &[4], number: 4 },
+    Row { what: "4, 65536 after a full image", n: 8, blocks: &[(0, 8, 1), (65536, 0, 1)], causes: &[4], number: 4 },
+    Row { what: "5", n: 1, blocks: &[(0, 0, 1), (1, 1, 2)], causes: &[5], number: 5 },
+    Row { what: "6, no block", n: 3, blocks: &[], causes: &[6], number: 6 },
+    Row { what: "6, one pixel short", n: 1, blocks: &[(0, 0, 1), (1, 0, 2), (2, 0, 1)], causes: &[6], number: 6 },
+    Row { what: "7", n: 1, blocks: &[(0, 0, 5), (1, 0, 5), (2, 0, 5), (3, 0, 5)], causes: &[7], number: 7 },
+    Row {
+        what: "7, at the end",
+        n: 2,
+        blocks: &[(0, 1, 1), (4, 1, 1), (8, 1, 1), (12, 0, 1), (13, 0, 1), (14, 0, 1), (15, 0, 1)],
+        causes: &[7],
+        number: 7,
+    },
+    // 1 with each other
+    Row { what: "1 and 3", n: 9, blocks: &[(0, 10, 1)], causes: &[1, 3], number: 1 },
+    Row { what: "1 and 4", n: 9, blocks: &[(0, 9, 1), (262144, 0, 1)], causes: &[1, 4], number: 1 },
+    Row { what: "1 and 5", n: 9, blocks: &[(0, 0, 1), (1, 9, 1)], causes: &[1, 5], number: 1 },
+    Row { what: "1 and 6", n: 9, blocks: &[], causes: &[1, 6], number: 1 },
+    Row {
+        what: "1 and 7",
+        n: 9,
+        blocks: &[(0, 8, 1), (65536, 8, 1), (131072, 8, 1), (196608, 8, 1)],
+        causes: &[1, 7],
+        number: 1,
+    },
+    // 3 with each later one. 3 and 6 exclude each other: a block of a level above n has more than 4^n pixels.
+    Row { what: "3 and 4 in one block", n: 1, blocks: &[(16, 2, 1)], causes: &[3, 4], number: 3 },
+    Row { what: "3 before 4", n: 1, blocks: &[(0, 2, 1), (5, 0, 1)], causes: &[3, 4], number: 3 },
+    Row { what: "4 before 3", n: 1, blocks: &[(1, 0, 1), (16, 2, 1)], causes: &[3, 4], number: 4 },
+    Row { what: "3 in a block after a full image", n: 1, blocks: &[(0, 1, 1), (16, 2, 1)], causes: &[3, 4], number: 3 },
+    Row { what: "3 and 5 in one block", n: 1, blocks: &[(0, 0, 1), (1, 2, 1)], causes: &[3, 5], number: 3 },
+    Row { what: "3 before 5", n: 1, blocks: &[(0, 2, 1), (16, 0, 1), (17, 1, 1)], causes: &[3, 5], number: 3 },
+    Row { what: "5 before 3", n: 1, blocks: &[(0, 0, 1), (1, 1, 1), (5, 2, 1)], causes: &[3, 5], number: 5 },
+    Row {
+        what: "3 before 7",
+        n: 2,
+        blocks: &[(0, 3, 1), (64, 0, 1), (65, 0, 1), (66, 0, 1), (67, 0, 1)],
+        causes: &[3, 7],
+        number: 3,
+    },
+    Row {
+        what: "7 before 3, which is after a full image",
+        n: 1,
+        blocks: &[(0, 0, 1), (1, 0, 1), (2, 0, 1), (3, 0, 1), (16, 2, 1)],
+        causes: &[3, 4, 7],
+        number: 3,
+    },
+    // 4 with each later one
+    Row { what: "4 and 5 in one block", n: 1, blocks: &[(2, 1, 1)], causes: &[4, 5], number: 4 },
+    Row { what: "4 before 5", n: 1, blocks: &[(1, 0, 1), (1, 1, 1)], causes: &[4, 5], number: 4 },
+    Row { what: "5 before 4", n: 1, blocks: &[(0, 0, 1), (1, 1, 1), (9, 0, 1)], causes: &[4, 5], number: 5 },
+    Row { what: "4 and 6", n: 1, blocks: &[(0, 0, 1), (2, 0, 2)], causes: &[4, 6], number: 4 },
+    Row {
+        what: "7 before 4, which is after a full image",
+        n: 1,
+        blocks: &[(0, 0, 1), (1, 0, 1), (2, 0, 1), (3, 0, 1), (4, 0, 1)],
+        causes: &[4, 7],
+        number: 4,
+    },
+    Row {
+        what: "4 before 7",
+        n: 1,
+        blocks: &[(1, 0, 2), (1, 0, 2), (4, 0, 1), (3, 0, 1), (4, 0, 1), (5, 0, 1)],
+        causes: &[4, 7],
+        number: 4,
+    },
+    // 5 with each later one
+    Row { what: "5 and 6", n: 2, blocks: &[(0, 0, 1), (1, 1, 2)], causes: &[5, 6], number: 5 },
+    Row {
+        what: "7 before 5",
+        n: 2,
+        blocks: &[
+            (0, 0, 1),
+            (1, 0, 1),
+            (2, 0, 1),
+            (3, 0, 1),
+            (4, 0, 1),
+            (5, 1, 2),
+            (9, 1, 3),
+            (13, 0, 1),
+            (14, 0, 2),
+            (15, 0, 3),
+        ],
+        causes: &[5, 7],
+        number: 5,
+    },
+    // 6 and 7
+    Row { what: "6 and 7", n: 2, blocks: &[(0, 0, 1), (1, 0, 1), (2, 0, 1), (3, 0, 1)], causes: &[6, 7], number: 6 },
+];
+
+fn list(rows: &[(u32, u8, u8)]) -> Blocks {
+    let mut blocks = Blocks::default();
+    for &(code, level, colour) in rows {
+        blocks.push(code, level, colour);
+    }
+    blocks
+}
+
+#[test]
+fn each_cause_and_each_pair() {
+    let mut cases = Cases::of("causes");
+    let mut random = Random::of("causes");
+    let mut seen = BTreeSet::new();
+    for row in ROWS {
+        let blocks = list(row.blocks);
+        let Blocks { codes, levels, colours } = &blocks;
+        assert_eq!(conditions(row.n, codes, levels, colours), row.causes, "{}: the row's causes", row.what);
+        assert_eq!(number(row.n, codes, levels, colours), row.number, "{}: the model", row.what);
+        judged(row.what, &mut random, row.n, &blocks, row.number);
+        seen.insert(row.causes.to_vec());
+        cases.ran();
+        seen.extend(unlike_lengths(row, &mut random, &mut cases));
+    }
+    // Every cause alone and every pair, but for 3 and 6, which exclude each other.
+    for a in 1..=7 {
+        assert!(seen.contains(&vec![a]), "{a} alone");
+        for b in a + 1..=7 {
+            assert_eq!(seen.contains(&vec![a, b]), (a, b) != (3, 6), "{a} and {b}");
+        }
+    }
+    cases.end();
+}
+
+/// Cause 2 beside those of a row: one of the three lists, or two, are longer or empty. It is answered after 1 and before all
+/// else.
+fn unlike_lengths(row: &Row, random: &mut Random, cases: &mut Cases) -> Vec<Vec<u32>> {
+    let whole = list(row.blocks);
+    let expected = if row.n > 8 { 1 } else { 2 };
+    let mut variants = vec![whole.clone(); 6];
+    variants[0].codes.push(0);
+    variants[1].levels.push(0);
+    variants[2].colours.push(0);
+    variants[3].codes.extend([0; 300]);
+    variants[3].levels.extend([0; 2]);
+    variants[4].levels.push(0);
+    variants[4].colours.push(0);
+    variants[5].colours.push(0);
+    variants[5].codes.push(0);
+    for empty in 0..3 {
+        let mut variant = whole.clone();
+        variant.push(0, 0, 0);
+        match empty {
+            0 => variant.codes.clear(),
+            1 => variant.levels.clear(),
+            _ => variant.colours.clear(),
+        }
+        variants.push(variant);
+    }
+    for blocks in &variants {
+        assert_eq!(number(row.n, &blocks.codes, &blocks.levels, &blocks.colours), expected, "{}: the model", row.what);
+        judged(row.what, random, row.n, blocks, expected);
+        cases.ran();
+    }
+    variants.iter().map(|b| conditions(row.n, &b.codes, &b.levels, &b.colours)).collect()
+}
+
+#[test]
+fn large_n_is_refused_before_all_else() {
+    let mut cases = Cases::of("large n");
+    let mut random = Random::of("large n");
+    let mut sides: Vec<u32> = (9..80).collect();
+    sides.extend([255, 256, 257, 264, 65535, 65536, 65544, 1 << 30, 1 << 31, (1 << 31) + 4, u32::MAX - 7, u32::MAX]);
+    for n in sides {
+        for row in ROWS {
+            judged(row.what, &mut random, n, &list(row.blocks), 1);
+            cases.ran();
+        }
+    }
+    cases.end();
+}
+
+#[test]
+fn every_small_list() {
+    let mut cases = Cases::of("small lists");
+    for (n, longest, codes, levels, colours) in [(0, 3, 4, 3, 2), (1, 4, 5, 3, 2), (1, 5, 6, 2, 1)] {
+        let letters: Vec<(u32, u8, u8)> =
+            (0..codes).flat_map(|c| (0..levels).flat_map(move |l| (0..colours).map(move |k| (c, l, k)))).collect();
+        for length in 0..=longest {
+            every_list(n, &letters, length, &mut Blocks::default(), &mut cases);
+        }
+    }
+    cases.end();
+}
+
+/// Every list of `more` more blocks after those in `blocks`.
+fn every_list(n: u32, letters: &[(u32, u8, u8)], more: usize, blocks: &mut Blocks, cases: &mut Cases) {
+    let Blocks { codes, levels, colours } = &*blocks;
+    if more == 0 {
+        let expected = number(n, codes, levels, colours);
+        assert_eq!(check(n, codes, levels, colours), expected, "n = {n}, {blocks}");
+        cases.ran();
+        return;
+    }
+    for &(code, level, colour) in letters {
+        blocks.push(code, level, colour);
+        every_list(n, letters, more - 1, blocks, cases);
+        blocks.codes.pop();
+        blocks.levels.pop();
+        blocks.colours.pop();
+    }
+}
+
+#[test]
+fn damaged_lists() {
+    let mut cases = Cases::of("damaged lists");
+    let mut random = Random::of("damaged lists");
+    let mut seen = BTreeSet::new();
+    for n in 0..=8 {
+        for _ in 0..if n < 7 { 40 } else { 4 } {
+            for raster in rasters::of_every_kind(&mut random, n) {
+                let mut blocks = quadtree(n, &raster);
+                for _ in 0..=random.below(3) {
+                    damage(&mut random, &mut blocks);
+                }
+                let Blocks { codes, levels, colours } = &blocks;
+                let expected = number(n, codes, levels, colours);
+                judged("damaged list", &mut random, n, &blocks, expected);
+                // A list is accepted exactly where it is the quadtree of what it paints.
+                assert!(expected != 0 || quadtree(n, &paint(n, &blocks)) == blocks, "n = {n}, {blocks}");
+                seen.insert(expected);
+                cases.ran();
+            }
+        }
+    }
+    assert_eq!(seen, BTreeSet::from([0, 2, 3, 4, 5, 6, 7]));
+    cases.end();
+}
+
+/// One change of a block list, somewhere.
+fn damage(random: &mut Random, blocks: &mut Blocks) {
+    if blocks.is_empty() {
+        return blocks.push(random.word(), random.byte(), random.byte());
+    }
+    let at = random.below(blocks.len().min(blocks.levels.len()).min(blocks.colours.len()).max(1));
+    if at >= blocks.levels.len() || at >= blocks.colours.len() {
+        return;
+    }
+    match random.below(12) {
+        0 => blocks.codes[at] = blocks.codes[at].wrapping_add(1),
+        1 => blocks.codes[at] = blocks.codes[at].wrapping_sub(1),
+        2 => blocks.codes[at] = blocks.codes[at].wrapping_add(65536),
+        3 => blocks.codes[at] = random.word(),
+        4 => blocks.levels[at] = blocks.levels[at].wrapping_add(1),
+        5 => blocks.levels[at] = random.byte(),
+        6 => blocks.colours[at] = random.byte(),
+        7 => drop((blocks.codes.remove(at), blocks.levels.remove(at), blocks.colours.remove(at))),
+        8 => blocks.push(blocks.codes[at], blocks.levels[at], blocks.colours[at]),
+        9 => drop(blocks.colours.pop()),
+        10 => match blocks.levels[at] {
+            0 => {
+                // four blocks from here on have the first one's colour
+                let end = blocks.colours.len().min(at + 4);
+                let colour = blocks.colours[at];
+                blocks.colours[at..end].fill(colour);
+            }
+            level => split(blocks, at, level.min(16) - 1),
+        },
+        _ => {
+            // the level one too large, and the blocks that it then covers gone
+            blocks.levels[at] = blocks.levels[at].saturating_add(1);
+            for _ in 0..3.min(blocks.codes.len() - 1 - at) {
+                blocks.codes.remove(at + 1);
+                blocks.levels.remove(at + 1);
+                if at + 1 < blocks.colours.len() {
+                    blocks.colours.remove(at + 1);
+                }
+            }
+        }
+    }
+}
+
+/// A block in four of the level below it.
+fn split(blocks: &mut Blocks, at: usize, level: u8) {
+    let (code, colour) = (blocks.codes[at], blocks.colours[at]);
+    blocks.levels[at] = level;
+    for k in (1..4).rev() {
+        blocks.codes.insert(at + 1, code.wrapping_add(k << (2 * level)));
+        blocks.levels.insert(at + 1, level);
+        blocks.colours.insert(at + 1, colour);
+    }
+}

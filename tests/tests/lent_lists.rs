@@ -1,0 +1,142 @@
+//! What becomes of lent lists: tails stay, lists one too short are refused, a refusal leaves everything.
+
+use tests::calls::{agrees, raster_from_blocks, BlocksOut};
+use tests::cases::Cases;
+use tests::lent::{Entry, Lent};
+use tests::model::blocks::quadtree;
+use tests::random::Random;
+use tests::rasters;
+
+/// Rasters to blocks: 8 in each of the three lists alone, in two and in all. The need is 4^n whatever the answer would use.
+#[test]
+fn block_lists_too_short() {
+    let mut cases = Cases::of("block lists too short");
+    let mut random = Random::of("block lists too short");
+    for n in 0..=8 {
+        for raster in rasters::of_every_kind(&mut random, n) {
+            let need = raster.len();
+            for short in 1..8 {
+                for missing in [1, need] {
+                    let length = |list: u32| if short >> list & 1 == 1 { need - missing } else { need + list as usize };
+                    let out = BlocksOut::call(&mut random, n, &raster, [length(0), length(1), length(2)]);
+                    agrees(
+                        format_args!("n = {n}, lists {short:03b} short by {missing}"),
+                        out.difference_from_refusal(8),
+                    );
+                    cases.ran();
+                }
+            }
+        }
+    }
+    cases.end();
+}
+
+/// Rasters to blocks: 1, 9, 8 in this order, each alone and each pair.
+#[test]
+fn refused_rasters() {
+    let mut cases = Cases::of("refused rasters");
+    let mut random = Random::of("refused rasters");
+    for n in (0..40).chain([64, 255, 256, 65536, 1 << 31, u32::MAX]) {
+        let need = if n <= 8 { 1usize << (2 * n) } else { 300 };
+        for length in [0, 1, need - 1, need, need + 1, 2 * need, 4 * need] {
+            let raster = vec![7; length];
+            for room in [need + 1, need, need - 1, 0] {
+                let expected = match (n > 8, length != need, room < need) {
+                    (true, _, _) => 1,
+                    (_, true, _) => 9,
+                    (_, _, true) => 8,
+                    _ => 0,
+                };
+                let out = BlocksOut::call(&mut random, n, &raster, [room, need, need]);
+                let difference = match expected {
+                    0 => out.difference(&quadtree(n, &raster)),
+                    _ => out.difference_from_refusal(expected),
+                };
+                agrees(format_args!("n = {n}, raster of {length}, codes of {room}"), difference);
+                cases.ran();
+            }
+        }
+    }
+    cases.end();
+}
+
+/// Blocks to raster: one entry too few is 8, whatever the list; more are left as they were.
+#[test]
+fn rasters_too_short_and_too_long() {
+    let mut cases = Cases::of("raster lengths");
+    let mut random = Random::of("raster lengths");
+    for n in 0..=8 {
+        for raster in rasters::of_every_kind(&mut random, n) {
+            let blocks = quadtree(n, &raster);
+            for length in [0, raster.len() / 2, raster.len() - 1] {
+                let out = raster_from_blocks(&mut random, n, &blocks, length);
+                agrees(format_args!("n = {n}, room for {length}"), out.difference_from_refusal(8));
+                cases.ran();
+            }
+            for more in [0, 1, 17, 3 * raster.len()] {
+                let out = raster_from_blocks(&mut random, n, &blocks, raster.len() + more);
+                agrees(format_args!("n = {n}, {more} entries more"), out.difference(&raster));
+                cases.ran();
+            }
+        }
+    }
+    cases.end();
+}
+
+/// The comparisons of this package can fail: with one entry of an answer damaged, also one of a tail or a guard, they say so.
+#[test]
+fn damage_is_seen() {
+    let mut cases = Cases::of("damage");
+    let mut random = Random::of("damage");
+    for n in 0..=3 {
+        for raster in rasters::of_every_kind(&mut random, n) {
+            let blocks = quadtree(n, &raster);
+            let more = raster.len() + 2;
+            let mut out = BlocksOut::call(&mut random, n, &raster, [more, more, more]);
+            each_place(&mut random, &mut cases, &mut out, |o| &mut o.codes, &blocks.codes, |o| o.difference(&blocks));
+            each_place(&mut random, &mut cases, &mut out, |o| &mut o.levels, &blocks.levels, |o| o.difference(&blocks));
+            each_place(
+                &mut random,
+                &mut cases,
+                &mut out,
+                |o| &mut o.colours,
+                &blocks.colours,
+                |o| o.difference(&blocks),
+            );
+            out.written.count += 1;
+            assert!(out.difference(&blocks).is_some(), "another count");
+            out.written.count -= 1;
+            out.written.number = 8;
+            assert!(out.difference(&blocks).is_some(), "another number");
+
+            let mut back = raster_from_blocks(&mut random, n, &blocks, more);
+            each_place(&mut random, &mut cases, &mut back, |b| &mut b.list, &raster, |b| b.difference(&raster));
+            back.written.count = 0;
+            assert!(back.difference(&raster).is_some(), "another count");
+
+            let mut refused = raster_from_blocks(&mut random, n, &blocks, raster.len() - 1);
+            each_place(&mut random, &mut cases, &mut refused, |r| &mut r.list, &[], |r| r.difference_from_refusal(8));
+            assert!(refused.difference_from_refusal(6).is_some(), "another number");
+        }
+    }
+    cases.end();
+}
+
+/// Damages each entry of one list by turns: the difference is reported, and none before it or after it was mended.
+fn each_place<O, T: Entry>(
+    random: &mut Random,
+    cases: &mut Cases,
+    out: &mut O,
+    list: impl Fn(&mut O) -> &mut Lent<T>,
+    written: &[T],
+    difference: impl Fn(&O) -> Option<String>,
+) {
+    for place in 0..list(out).places() {
+        assert_eq!(difference(out), None);
+        list(out).damage(random, place);
+        let said = difference(out).expect("a damaged entry is reported");
+        assert!(said.contains(&format!("entry {place}:")), "damage at {place}, and reported was: {said}");
+        list(out).mend(written, place);
+        cases.ran();
+    }
+}

@@ -1,0 +1,59 @@
+//! Rasters to blocks and back, against the model: every small raster, and random ones of every side.
+
+use tests::calls::{agrees, raster_from_blocks, BlocksOut};
+use tests::cases::Cases;
+use tests::compare::Shown;
+use tests::library::check;
+use tests::model::blocks::{number, paint, quadtree};
+use tests::random::Random;
+use tests::rasters;
+
+/// The raster's blocks are the model's quadtree, which the check accepts, and they give the raster again. The lent lists are
+/// longer than needed by `more`, and their tails stay.
+fn there_and_back(random: &mut Random, n: u32, raster: &[u8], more: usize) {
+    let need = raster.len() + more;
+    let blocks = quadtree(n, raster);
+    let out = BlocksOut::call(random, n, raster, [need, need, need]);
+    agrees(format_args!("blocks of n = {n}, {}", Shown(raster)), out.difference(&blocks));
+    assert_eq!(check(n, &blocks.codes, &blocks.levels, &blocks.colours), 0, "n = {n}, {blocks}");
+    assert_eq!(number(n, &blocks.codes, &blocks.levels, &blocks.colours), 0, "the model: n = {n}, {blocks}");
+    let back = raster_from_blocks(random, n, &blocks, need);
+    agrees(format_args!("raster of n = {n}, {blocks}"), back.difference(raster));
+    assert_eq!(paint(n, &blocks), raster, "the model's painting");
+}
+
+#[test]
+fn random_rasters_there_and_back() {
+    let mut cases = Cases::of("random rasters");
+    let mut random = Random::of("random rasters");
+    for n in 0..=8 {
+        for round in 0..if n < 6 { 60 } else { 6 } {
+            for raster in rasters::of_every_kind(&mut random, n) {
+                there_and_back(&mut random, n, &raster, round);
+                cases.ran();
+            }
+        }
+    }
+    cases.end();
+}
+
+#[test]
+fn small_rasters_there_and_back() {
+    let mut cases = Cases::of("small rasters");
+    let mut random = Random::of("small rasters");
+    for colour in 0..=255 {
+        there_and_back(&mut random, 0, &[colour], 0);
+        cases.ran();
+    }
+    for k in 0..4usize.pow(4) {
+        let raster: Vec<u8> = (0..4).map(|i| (k >> (2 * i) & 3) as u8).collect();
+        there_and_back(&mut random, 1, &raster, 1);
+        cases.ran();
+    }
+    for k in 0..1usize << 16 {
+        let raster: Vec<u8> = (0..16).map(|i| (k >> i & 1) as u8).collect();
+        there_and_back(&mut random, 2, &raster, 0);
+        cases.ran();
+    }
+    cases.end();
+}
