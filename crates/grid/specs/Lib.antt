@@ -20,3 +20,4 @@ pub mod Forms
 pub mod Outer
 pub mod Stretches
 pub mod Unseen
+pub mod Rows
