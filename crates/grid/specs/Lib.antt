@@ -21,3 +21,4 @@ pub mod Outer
 pub mod Stretches
 pub mod Unseen
 pub mod Rows
+pub mod Marks
