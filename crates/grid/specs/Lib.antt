@@ -22,3 +22,4 @@ pub mod Stretches
 pub mod Unseen
 pub mod Rows
 pub mod Marks
+pub mod Walking
