@@ -23,3 +23,4 @@ pub mod Unseen
 pub mod Rows
 pub mod Marks
 pub mod Walking
+pub mod Unmarked
