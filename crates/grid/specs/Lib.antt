@@ -24,3 +24,4 @@ pub mod Rows
 pub mod Marks
 pub mod Walking
 pub mod Unmarked
+pub mod Chains
