@@ -20,3 +20,8 @@ pub mod Forms
 pub mod Outer
 pub mod Stretches
 pub mod Unseen
+pub mod Rows
+pub mod Marks
+pub mod Walking
+pub mod Unmarked
+pub mod Chains
