@@ -127,8 +127,14 @@ length-onward close [] hc h = omega arith
 length-onward close (p ∷ ps) hc h =
     let b = then-both (inside p) (allInside ps) h in
     let q = getD ps 0 close in
-    omega (arith, ap length (onward-list close p ps), length-append (straight p q) (onward close ps), length-straight p q,
-      distance-most p q (b .0) (head-inside close ps hc (b .1)), length-onward close ps hc (b .1))
+    omega (
+      arith,
+      ap length (onward-list close p ps),
+      length-append (straight p q) (onward close ps),
+      length-straight p q,
+      distance-most p q (b .0) (head-inside close ps hc (b .1)),
+      length-onward close ps hc (b .1),
+    )
 
 pub edges-most : (cs : List ℕ) → 0 < length cs → allInside cs ≡ true → length (outline cs) ≤ 256 * length cs
 unfolding wayFrom

@@ -75,10 +75,13 @@ turns-inside (b ∷ bs) d p close i h = pick (ℕ-discrete d (digitOf b)) (turns
   where
     l : Leads d p b bs close
     l = first-byte d p b bs close h
+
     rest : List ℕ
     rest = walk (move (digitOf b) p) bs
+
     g : digit (edge p (digitOf b)) ≡ digitOf b
     g = digit-edge p (digitOf b) (digit-below (l .byte))
+
     pick : Dec (d ≡ digitOf b) → allInside (turns (digitOf b) rest) ≡ true → allInside (turns d (edge p (digitOf b) ∷ rest)) ≡ true
     pick (yes e) r = rw (turns-on d (edge p (digitOf b)) rest (e ∙ sym g), e) r
     pick (no n) r = rw (turns-turn d (edge p (digitOf b)) rest (λ e. n (e ∙ g)), tail-edge p (digitOf b) (digit-below (l .byte)), g) (rw (i, allInside) r)
@@ -151,6 +154,7 @@ walk-turning (b ∷ bs) d k c close h pos r i w odd = pick (walk-turning bs) (�
   where
     l : Leads d (far d k c) b bs close
     l = first-byte d (far d k c) b bs close w
+
     pick : Goal bs → Dec (d ≡ digitOf b) → byTurns (isEven d) c (turns d (walk (far d k c) (b ∷ bs))) close ≡ true
     pick ih (yes e) = on b bs ih d k c close h pos r i l odd e
     pick ih (no n) = off b bs ih d k c close h pos r i l odd n
@@ -168,12 +172,16 @@ first-turn (b ∷ bs) k c close pos r i w odd = pick (first-turn bs (suc k) c cl
   where
     q : ℕ
     q = far 0 k c
+
     n : ℕ
     n = digitOf b
+
     l : Leads 0 q b bs close
     l = first-byte 0 q b bs close w
+
     g : digit (edge q n) ≡ n
     g = digit-edge q n (digit-below (l .byte))
+
     pick : (Room 0 (suc k) c → inside (far 0 (suc k) c) ≡ true → leads 0 (far 0 (suc k) c) bs close ≡ true → endDigit 0 bs % 2 ≡ 1 → xOf c < xOf (getD (turns 0 (walk (far 0 (suc k) c) bs)) 0 0))
         → Dec (0 ≡ n) → xOf c < xOf (getD (turns 0 (edge q n ∷ walk (move n q) bs)) 0 0)
     pick ih (yes e) =
@@ -209,6 +217,7 @@ more-than-two cs c h = (even, enough cs h even)
     even =
         let e : suc (length cs) ≡ length cs + 1 = omega arith in
         even-says (suc (length cs)) (ap isEven e ∙ even-next (length cs) ∙ ap not (turns-parity cs true c c h))
+
     enough : (cs : List ℕ) → byTurns true c cs c ≡ true → suc (length cs) % 2 ≡ 0 → 4 ≤ suc (length cs)
     enough [] h e = absurd (omega arith)
     enough (q ∷ []) h e = absurd (not-two c q h)

@@ -33,6 +33,6 @@ pub record Dial1 : Type 0 where
 
 pub dial-1 : Dial1
 unfolding
-  square squarePath squareChain cycleForm pathData chainOf chainForm cornersOf allInside inside eastward steps byTurns along alongX alongY word pathDataFrom decimal isEven bytesOf
-  byteOf outline firstEast lastAcross isAcross lastByte closes leads allowed isDigit free digitOf walk corners turns lastOf digit tail edge move opposite xOf yOf point
+    square squarePath squareChain cycleForm pathData chainOf chainForm cornersOf allInside inside eastward steps byTurns along alongX alongY word pathDataFrom decimal isEven bytesOf
+    byteOf outline firstEast lastAcross isAcross lastByte closes leads allowed isDigit free digitOf walk corners turns lastOf digit tail edge move opposite xOf yOf point
 dial-1 = record { form = refl; path = refl; chain = refl; chain-accepted = refl; corners = refl }

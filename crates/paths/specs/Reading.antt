@@ -155,8 +155,10 @@ module _ {last start : ℕ} {bs : List ℕ} {i p d n : ℕ} (f : Following last 
     where
       a : Allowed d p (getD bs i 0)
       a = allowed-says d p (getD bs i 0) h
+
       e′ : ℕ
       e′ = digitOf (getD bs i 0)
+
       made : k ≤ 1 → n + k + length (turns e′ (walk (move e′ p) (drop (i + 1) bs))) ≡ length (turns last (walk start bs))
           → Following last start bs (i + 1) (move e′ p) e′ (n + k)
       made m t =
@@ -168,6 +170,7 @@ module _ {last start : ℕ} {bs : List ℕ} {i p d n : ℕ} (f : Following last 
             way = leads-on bs i d p start l h ∙ f .way;
             met = t;
           }
+
       pick : Dec (d ≡ e′) → Following last start bs (i + 1) (move e′ p) e′ (n + k)
       pick (yes s) =
           let z : k ≡ 0 = c ∙ ap (λ (b : Bool). cond b 0 1) (eq-eqb d e′ s) in
@@ -225,8 +228,10 @@ module _ {last start : ℕ} {bs old now : List ℕ} {i p d at : ℕ} (g : Drawin
     where
       a : Allowed d p (getD bs i 0)
       a = allowed-says d p (getD bs i 0) draws
+
       e′ : ℕ
       e′ = digitOf (getD bs i 0)
+
       made : Underway (turns last (walk start bs)) (turns e′ (walk (move e′ p) (drop (i + 1) bs))) old now′ at′ → Drawing last start bs old now′ (i + 1) (move e′ p) e′ at′
       made u =
           record {
@@ -236,6 +241,7 @@ module _ {last start : ℕ} {bs old now : List ℕ} {i p d at : ℕ} (g : Drawin
             way = leads-on bs i d p start l draws ∙ g .way;
             list = u;
           }
+
       pick : Dec (d ≡ e′) → Drawing last start bs old now′ (i + 1) (move e′ p) e′ at′
       pick (yes s) =
           let x : at′ ≡ at = c ∙ ap (λ (b : Bool). cond b at (at + 1)) (eq-eqb d e′ s) in

@@ -56,7 +56,7 @@ corners-come-back cs bytes bytes′ list list′ w r writes ok reads room =
     let back = form-written-and-read cs form in
     let same : ChainRead (getD cs 0 0) (chainOf cs) list list′ r = rw (left .read-back) at reads in
     let z : readNumber (getD cs 0 0) (chainOf cs) list ≡ 0 =
-        no-cause 17 (chainForm (getD cs 0 0) (chainOf cs)) (length (cornersOf (getD cs 0 0) (chainOf cs))) (length list) (back .accepted-again) (rw (back .same-corners) room) in
+    no-cause 17 (chainForm (getD cs 0 0) (chainOf cs)) (length (cornersOf (getD cs 0 0) (chainOf cs))) (length list) (back .accepted-again) (rw (back .same-corners) room) in
     (same .number-is ∙ z, rw (back .same-corners) at (left-by (readNumber (getD cs 0 0) (chainOf cs) list) (cornersOf (getD cs 0 0) (chainOf cs)) list list′ r same z))
 
 -- The bytes `bs` were accepted and their corners written into a list; the corners written are written as a chain into a list with
@@ -72,7 +72,7 @@ bytes-come-back start bs list list′ bytes bytes′ r w reads ok writes room =
     let same : ChainWritten (cornersOf start bs) bytes bytes′ w = rw (left .read-back) at writes in
     let need : length (outline (cornersOf start bs)) ≡ length bs = edges (cornersOf start bs) ∙ ap length (back .same-bytes) in
     let z : chainNumber (cornersOf start bs) bytes ≡ 0 =
-        no-cause 16 (cycleForm (cornersOf start bs)) (length (outline (cornersOf start bs))) (length bytes) (back .accepted-again) (omega arith) in
+    no-cause 16 (cycleForm (cornersOf start bs)) (length (outline (cornersOf start bs))) (length bytes) (back .accepted-again) (omega arith) in
     (same .number-is ∙ z, rw (back .same-bytes) at (left-by (chainNumber (cornersOf start bs) bytes) (chainOf (cornersOf start bs)) bytes bytes′ w same z))
   where
     edges : (cs : List ℕ) → length (outline cs) ≡ length (chainOf cs)

@@ -64,8 +64,10 @@ word-length i c h = pick (ℕ-discrete i 0) (ℕ-discrete (i % 2) 0)
   where
     xs : length (decimal (xOf c)) ≤ 3
     xs = decimal-length (xOf c) (omega (arith, inside-says c h .0))
+
     ys : length (decimal (yOf c)) ≤ 3
     ys = decimal-length (yOf c) (omega (arith, inside-says c h .1))
+
     pick : Dec (i ≡ 0) → Dec (i % 2 ≡ 0) → (length (word i c) ≤ 8) × (0 < i → length (word i c) ≤ 4)
     pick (yes z) e = rw (word-first i c z) (omega (arith, length-append (77 ∷ decimal (xOf c)) (32 ∷ decimal (yOf c)), xs, ys), λ p. absurd (omega arith))
     pick (no n) (yes e) = rw (word-even i c n e) (omega (arith, ys), λ p. omega (arith, ys))

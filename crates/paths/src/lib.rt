@@ -1,7 +1,7 @@
 // One outline as SVG path data and as a chain code, a chain code read back, and the stretch of one cycle's corners
 // (document 01, "Path, chain and picture").
 ghost use mathlib.Core.Path.{_≡_};
-ghost use Prim.Native.Nat.{_+_, _*_, _<_};
+ghost use Prim.Native.Nat.{_<_};
 ghost use lib.ListN.{length};
 ghost use Rattle.paths.specs.Chain.{ChainWritten};
 ghost use Rattle.paths.specs.ChainForm.{ChainRead};

@@ -16,9 +16,9 @@ use Rattle.paths.proofs.read_chain.Tie as tie
 -- The bytes are a chain, and its corners were counted.
 counted : (c : tie.Else1) → let a = c .before .before .before .before .args in (chainForm (a .start) (a .bytes .now) ≡ true) × (c .before .count .result ≡ length (cornersOf (a .start) (a .bytes .now)))
 counted c =
-     let a = c .before .before .before .before .args in
-     let s = count-some (a .start) (a .bytes .now) (λ e. c .if1 .left (c .before .count .ensures ∙ e)) in
-     (s .0, c .before .count .ensures ∙ s .1)
+    let a = c .before .before .before .before .args in
+    let s = count-some (a .start) (a .bytes .now) (λ e. c .if1 .left (c .before .count .ensures ∙ e)) in
+    (s .0, c .before .count .ensures ∙ s .1)
 
 chain : (c : tie.Else1) → let a = c .before .before .before .before .args in Readable (a .start) (a .bytes .now) (getD (a .bytes .now) (length (a .bytes .now) - 1) 0 - 48)
 chain c = readable (c .before .before .before .before .args .start) (c .before .before .before .before .args .bytes .now) (counted c .0)

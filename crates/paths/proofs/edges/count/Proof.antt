@@ -19,11 +19,11 @@ abbrev μ-loop : tie.MeasureT-loop
 
 -- The step at i is what is counted.
 step : (c : tie.After-units Inv-loop μ-loop) → let l = c .before .before .before .before .loop in let cs = c .before .before .before .before .before .before .args .corners .now in
-     length (wayFrom cs (l .i)) ≡ c .units .result + length (wayFrom cs (l .i + 1))
+    length (wayFrom cs (l .i)) ≡ c .units .result + length (wayFrom cs (l .i + 1))
 step c =
-     let l = c .before .before .before .before .loop in
-     let cs = c .before .before .before .before .before .before .args .corners .now in
-     length-next cs (l .i) (c .before .before .before .loop-test .taken) ∙ ap (λ n. n + length (wayFrom cs (l .i + 1))) (sym (c .units .ensures ∙ ap (distance (getD cs (l .i) 0)) (c .before .next .ensures)))
+    let l = c .before .before .before .before .loop in
+    let cs = c .before .before .before .before .before .before .args .corners .now in
+    length-next cs (l .i) (c .before .before .before .loop-test .taken) ∙ ap (λ n. n + length (wayFrom cs (l .i + 1))) (sym (c .units .ensures ∙ ap (distance (getD cs (l .i) 0)) (c .before .next .ensures)))
 
 loop-holds : tie.Need-loop-holds Inv-loop μ-loop
 loop-holds c = (search needs, omega (arith, ap length (way-whole (c .before .args .corners .now))))

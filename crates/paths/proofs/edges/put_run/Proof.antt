@@ -32,9 +32,11 @@ loop-holds : tie.Need-loop-holds Inv-loop μ-loop
 loop-holds c =
     let a = c .before .before .before .args in
     let n = c .units .result in
-    let b = 48 + c .before .way .result in
-    (search needs, begin-with (bytesOf (straight (a .p) (a .q))) (replicate (n - 0) b) (a .bytes .now)
-      (replicate-all n b ∙ ap₂ (λ k d. replicate k (48 + d)) (c .units .ensures) (c .before .way .ensures) ∙ sym (bytes-straight (a .p) (a .q))))
+    let b = 48 + c .before .way .result in (
+      search needs,
+      begin-with (bytesOf (straight (a .p) (a .q))) (replicate (n - 0) b) (a .bytes .now)
+          (replicate-all n b ∙ ap₂ (λ k d. replicate k (48 + d)) (c .units .ensures) (c .before .way .ensures) ∙ sym (bytes-straight (a .p) (a .q))),
+    )
 
 add-bytes : tie.Need-add-bytes Inv-loop μ-loop
 add-bytes c = omega (arith, c .before .before .before .way .ensures, heading-below (c .before .before .before .before .before .args .p) (c .before .before .before .before .before .args .q))

@@ -47,8 +47,14 @@ add-at c =
     let l = c .before .before .before .before .before .before .before .loop in
     let cs = c .before .before .before .before .before .before .before .before .before .before .args .corners .now in
     let q = c .before .before .before .before .next .result in
-    omega (arith, chain-room cs (l .i) q (c .before .before .before .before .before .before .loop-test .taken) (c .before .before .before .before .next .ensures) (l .inv .1) (c .before .before .before .before .before .before .before .before .before .before .pre), c .before .before .put-run .ensures .count-is,
-      length-bytes (straight (getD cs (l .i) 0) q), length-straight (getD cs (l .i) 0) q, l .inv .1 .long)
+    omega (
+      arith,
+      chain-room cs (l .i) q (c .before .before .before .before .before .before .loop-test .taken) (c .before .before .before .before .next .ensures) (l .inv .1) (c .before .before .before .before .before .before .before .before .before .before .pre),
+      c .before .before .put-run .ensures .count-is,
+      length-bytes (straight (getD cs (l .i) 0) q),
+      length-straight (getD cs (l .i) 0) q,
+      l .inv .1 .long,
+    )
 
 add-i : tie.Need-add-i Inv-loop μ-loop
 add-i c = search needs

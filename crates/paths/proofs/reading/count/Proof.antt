@@ -24,17 +24,17 @@ begins c = (sym (c .before .before .before .before .within .ensures) ∙ not-fal
 finishes : (c : tie.Else4) → lastAcross (c .before .before .before .before .before .before .before .before .before .args .bytes .now) ≡ true
 unfolding lastAcross
 finishes c =
-     ap isAcross (sym (last-at (c .before .before .before .before .before .before .before .before .before .args .bytes .now) (begins (c .before .before .before) .2))) ∙ sym (c .before .across .ensures) ∙ not-false (c .before .across .result) (c .if4 .left)
+    ap isAcross (sym (last-at (c .before .before .before .before .before .before .before .before .before .args .bytes .now) (begins (c .before .before .before) .2))) ∙ sym (c .before .across .ensures) ∙ not-false (c .before .across .result) (c .if4 .left)
 
 -- What was counted.
 corners : (c : tie.After-follow) → let a = c .before .before .before .before .before .before .before .before .before .before .args in c .follow .result ≡ cond (closes (a .start) (a .bytes .now)) (length (cornersOf (a .start) (a .bytes .now))) 0
 unfolding digitOf lastAcross
 corners c =
-     let a = c .before .before .before .before .before .before .before .before .before .before .args in
-     let some = begins (c .before .before .before .before) .2 in
-     c .follow .ensures
-     ∙ ap (λ b. counted (b - 48) (a .start) (a .bytes .now)) (last-at (a .bytes .now) some)
-     ∙ counted-is (a .start) (a .bytes .now) some (across-below (lastByte (a .bytes .now)) (finishes (c .before)) .1)
+    let a = c .before .before .before .before .before .before .before .before .before .before .args in
+    let some = begins (c .before .before .before .before) .2 in
+    c .follow .ensures
+    ∙ ap (λ b. counted (b - 48) (a .start) (a .bytes .now)) (last-at (a .bytes .now) some)
+    ∙ counted-is (a .start) (a .bytes .now) some (across-below (lastByte (a .bytes .now)) (finishes (c .before)) .1)
 
 within-requires : tie.Need-within-requires
 within-requires c κs = search needs

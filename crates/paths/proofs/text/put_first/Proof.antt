@@ -32,8 +32,11 @@ unfolding yOf
 add-result c =
     let p = c .before .before .before .before .before .before .put-number in
     let q = c .before .before .put-number2 in
-    omega (arith, number-short 77 (c .before .before .before .before .before .before .before .before .before .args .c % 512) (p .result) (omega arith) (p .ensures .count-is),
-      number-short 32 (c .before .before .before .before .before .before .before .before .before .args .c / 512) (q .result) (omega (arith, inside-says (c .before .before .before .before .before .before .before .before .before .args .c) (c .before .before .before .before .before .before .before .before .before .pre .1))) (q .ensures .count-is))
+    omega (
+      arith,
+      number-short 77 (c .before .before .before .before .before .before .before .before .before .args .c % 512) (p .result) (omega arith) (p .ensures .count-is),
+      number-short 32 (c .before .before .before .before .before .before .before .before .before .args .c / 512) (q .result) (omega (arith, inside-says (c .before .before .before .before .before .before .before .before .before .args .c) (c .before .before .before .before .before .before .before .before .before .pre .1))) (q .ensures .count-is),
+    )
 
 same-length : tie.Need-same-length
 same-length c = search needs

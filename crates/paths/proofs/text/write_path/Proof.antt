@@ -20,12 +20,13 @@ abbrev μ-loop : tie.MeasureT-loop
 
 -- How far the text has come after a turn.
 further : (c : tie.After-slice-known2 Inv-loop μ-loop) →
-     let l = c .before .before .before .before .before .before .loop in
-     (l .at + c .before .before .put-corner .result ≤ 8 * (l .i + 1)) × (l .at + c .before .before .put-corner .result ≤ 4 * (l .i + 1) + 4)
+    let l = c .before .before .before .before .before .before .loop in
+    (l .at + c .before .before .put-corner .result ≤ 8 * (l .i + 1)) × (l .at + c .before .before .put-corner .result ≤ 4 * (l .i + 1) + 4)
 further c =
-     let l = c .before .before .before .before .before .before .loop in
-     let cs = c .before .before .before .before .before .before .before .before .before .args .corners .now in
-     word-bounds (l .i) (getD cs (l .i) 0) (l .at) (c .before .before .put-corner .result) (all-inside-at cs (c .before .before .before .before .before .before .before .before .before .pre .0) (l .i) (c .before .before .before .before .before .loop-test .taken)) (c .before .before .put-corner .ensures .count-is) (l .inv .1) (l .inv .2)
+    let l = c .before .before .before .before .before .before .loop in
+    let cs = c .before .before .before .before .before .before .before .before .before .args .corners .now in
+    word-bounds (l .i) (getD cs (l .i) 0) (l .at) (c .before .before .put-corner .result) (all-inside-at cs (c .before .before .before .before .before .before .before .before .before .pre .0) (l .i) (c .before .before .before .before .before .loop-test .taken)) (c .before .before .put-corner .ensures .count-is) (l .inv .1) (l .inv .2)
+
 -- The whole text, with Z.
 ended : (c : tie.After-loop Inv-loop μ-loop) → Underway (pathData (c .before .before .before .before .args .corners .now)) [] (c .before .before .before .before .args .text .now) (set (c .before .loop .text) (c .before .loop .at) 90) (c .before .loop .at + 1)
 ended c = let l = c .before .loop in one 90 [] (l .inv .3) (path-end (c .before .before .before .before .args .corners .now) (l .i) (c .loop-test .left)) (omega (arith, l .inv .3 .long))
