@@ -25,3 +25,4 @@ pub mod Marks
 pub mod Walking
 pub mod Unmarked
 pub mod Chains
+pub mod Links
