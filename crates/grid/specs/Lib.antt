@@ -26,3 +26,4 @@ pub mod Walking
 pub mod Unmarked
 pub mod Chains
 pub mod Links
+pub mod Underway
