@@ -25,3 +25,5 @@ pub mod Marks
 pub mod Walking
 pub mod Unmarked
 pub mod Chains
+pub mod Links
+pub mod Underway

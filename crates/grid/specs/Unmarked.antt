@@ -3,7 +3,7 @@
 use mathlib.Core.Path.{_≡_, refl, sym, ap, ap₂, _∙_, subst}
 use mathlib.Core.Logic.{_≢_, _⊎_, inl, inr}
 use mathlib.Core.Bool.{Bool, true, false, false≢true}
-use mathlib.Core.List.{List, [], _∷_}
+use mathlib.Core.List.{List, [], _∷_, _++_}
 use Prim.Native.Nat.{ℕ, zero, suc, _+_, _-_, _*_, _/_, _%_, _^_, _≤_, _<_}
 use native.Mathlib.Decide.{ℕ-discrete}
 use native.Mathlib.Omega.{arith}
@@ -13,7 +13,7 @@ use Rattle.sequences.specs.Powers.{pow2-pos, square-of-side}
 use Rattle.location.specs.Codes.{code, column, row}
 use Rattle.location.specs.Interleaving.{column-below, row-below, code-of-coordinates}
 use Rattle.lattice.specs.Directions.{point, xOf, yOf, edge, tail, digit}
-use Rattle.orbits.specs.Members.{In, in-first, in-later, in-cases, in-none, in-dec}
+use Rattle.orbits.specs.Members.{In, in-first, in-single, in-none, in-dec, in-left, in-right, in-append}
 use Rattle.grid.specs.Map.{regionAt, around}
 use Rattle.grid.specs.Margins.{Margin}
 use Rattle.grid.specs.Steps.{Edge}
@@ -93,28 +93,28 @@ module _ (n : ℕ) (nums : List ℕ) (small : n ≤ 8) where
       old-mark b h miss =
           marks-miss (2 ^ n) r (cycle n nums c) w (placeOf n b) (λ (e, i, z, q). miss (subst (λ x. In x (cycle n nums c)) (hits-north r e b h (edges-here e i) z q) i))
 
-      pub written : MarksOf n nums (marks (2 ^ n) (suc (getD nums c 0)) (cycle n nums c) w) (c ∷ done)
+      pub written : MarksOf n nums (marks (2 ^ n) (suc (getD nums c 0)) (cycle n nums c) w) (done ++ (c ∷ []))
       written = record {
         map = rows-marks (2 ^ n) r (cycle n nums c) w (s .fit) in-rows ∙ s .map;
         fit = record { small = s .fit .small; room = omega (arith, s .fit .room, length-marks (2 ^ n) r (cycle n nums c) w) };
-        starts = λ d i. start-of d (in-cases d c done i);
+        starts = λ d i. start-of d (in-append d done (c ∷ []) i);
         seen = λ b h k. seen-of b h k (in-dec (northSide n b) (cycle n nums c));
-        marked = λ b d h i k. marked-of b d h (in-cases d c done i) k;
+        marked = λ b d h i k. marked-of b d h (in-append d done (c ∷ []) i) k;
       }
         where
-          start-of : (d : ℕ) → (d ≡ c) ⊎ In d done → StartAt n nums d
-          start-of d (inl e) = subst (StartAt n nums) (sym e) t
-          start-of d (inr i) = s .starts d i
+          start-of : (d : ℕ) → In d done ⊎ In d (c ∷ []) → StartAt n nums d
+          start-of d (inl i) = s .starts d i
+          start-of d (inr i) = subst (StartAt n nums) (sym (in-single d c i)) t
 
-          seen-of : (b : ℕ) → b < 4 ^ n → 131072 ≤ getD w′ (placeOf n b) 0 → Dec (In (northSide n b) (cycle n nums c)) → (d : ℕ) × In d (c ∷ done) × In (northSide n b) (cycle n nums d)
-          seen-of b h k (yes i) = (c, in-first c done, i)
+          seen-of : (b : ℕ) → b < 4 ^ n → 131072 ≤ getD w′ (placeOf n b) 0 → Dec (In (northSide n b) (cycle n nums c)) → (d : ℕ) × In d (done ++ (c ∷ [])) × In (northSide n b) (cycle n nums d)
+          seen-of b h k (yes i) = (c, in-right c done (c ∷ []) (in-first c []), i)
           seen-of b h k (no i) =
               let o = s .seen b h (omega (arith, old-mark b h i)) in
-              (o .0, in-later (o .0) c done (o .1), o .2)
+              (o .0, in-left (o .0) done (c ∷ []) (o .1), o .2)
 
-          marked-of : (b d : ℕ) → b < 4 ^ n → (d ≡ c) ⊎ In d done → In (northSide n b) (cycle n nums d) → 131072 ≤ getD w′ (placeOf n b) 0
-          marked-of b d h (inl e) k = new-mark b h (subst (λ x. In (northSide n b) (cycle n nums x)) e k)
-          marked-of b d h (inr i) k = pick (in-dec (northSide n b) (cycle n nums c))
+          marked-of : (b d : ℕ) → b < 4 ^ n → In d done ⊎ In d (c ∷ []) → In (northSide n b) (cycle n nums d) → 131072 ≤ getD w′ (placeOf n b) 0
+          marked-of b d h (inr i) k = new-mark b h (subst (λ x. In (northSide n b) (cycle n nums x)) (in-single d c i) k)
+          marked-of b d h (inl i) k = pick (in-dec (northSide n b) (cycle n nums c))
             where
               pick : Dec (In (northSide n b) (cycle n nums c)) → 131072 ≤ getD w′ (placeOf n b) 0
               pick (yes j) = new-mark b h j

@@ -34,6 +34,10 @@ in-cases a x l (suc i, h, e) = inr (i, omega arith, e)
 pub in-none : {A : Type 0} (a : ℕ) → In a [] → A
 in-none a (i, h, e) = let z : ⊥ = omega arith in absurd z
 
+pub in-single : (a x : ℕ) → In a (x ∷ []) → a ≡ x
+in-single a x (zero, h, e) = sym e
+in-single a x (suc i, h, e) = let z : ⊥ = omega arith in absurd z
+
 -- Whether a number stands in a list.
 pub in-dec : (a : ℕ) (l : List ℕ) → Dec (In a l)
 in-dec a [] = no (λ i. in-none a i)
