@@ -1,0 +1,3 @@
+-- The map of regions with its marks, and the walk along one cycle.
+pub mod Mapped
+pub mod Promise
