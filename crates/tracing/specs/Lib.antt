@@ -2,3 +2,4 @@
 pub mod Mapped
 pub mod Promise
 pub mod Look
+pub mod Rule
