@@ -1,0 +1,5 @@
+-- The map of regions with its marks, and the walk along one cycle.
+pub mod Mapped
+pub mod Promise
+pub mod Look
+pub mod Rule
