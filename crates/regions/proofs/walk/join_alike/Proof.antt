@@ -1,3 +1,4 @@
+use Rattle.regions.specs.Sides.{joined-alike, kept-unlike}
 use borrow.Author.Needs.{needs}
 use Rattle.regions.proofs.walk.join_alike.Statement.{statement}
 use Rattle.regions.proofs.walk.join_alike.Tie as tie
@@ -23,11 +24,15 @@ same-length c = search needs
 
 -- src/walk.rt:17:1
 returns : tie.Need-returns
-returns c = search needs
+returns c =
+    let a = c .before .before .before .before .before .before .before .before .before .args in
+    joined-alike (a .colours .now) (a .b) (a .k) (c .before .before .before .before .if1 .taken) (c .before .before .join .ensures)
 
 -- src/walk.rt:17:1
 returns-2 : tie.Need-returns-2
-returns-2 c = search needs
+returns-2 c =
+    let s = c .before .before .before .before .before in
+    kept-unlike (s .args .colours .now) (s .args .b) (s .args .k) (s .pre .low) (c .if1 .left)
 
 pub join-alike-spec : {M : Type 1} → statement M
 join-alike-spec =
