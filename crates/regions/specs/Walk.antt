@@ -1,11 +1,11 @@
 -- The loop over the blocks: what one turn is handed, and that it leads from k blocks done to one more.
-use mathlib.Core.Path.{_≡_, refl, sym, ap, ap₂, _∙_}
+use mathlib.Core.Path.{_≡_, refl, sym, ap, _∙_, subst}
 use mathlib.Core.List.{List, [], _∷_}
 use Prim.Native.Nat.{ℕ, _+_, _*_, _^_, _≤_, _<_}
 use native.Mathlib.Omega.{arith}
 use lib.ListN.{length, getD}
 use Rattle.sequences.specs.Powers.{pow4-pos, pow4-mono}
-use Rattle.sequences.specs.Ranges.{range}
+use Rattle.sequences.specs.Ranges.{range, length-range}
 use Rattle.location.specs.Codes.{column, row}
 use Rattle.location.specs.Levels.{sideOf, side-is-power}
 use Rattle.quadtree.specs.Blocks.{Block, blocks, pixels}
@@ -47,6 +47,14 @@ few-blocks {n} {cs} {ls} {ks} passes =
 
 pub walk-begins : {n : ℕ} {cs ls ks p work : List ℕ} → Walkable n cs ls ks p work → Walking n cs ls ks work 0 work p
 walk-begins {n} {cs} {ls} {ks} {p} {work} h = rw (h .own) (begin n cs ls ks work (h .room))
+
+pub parents-kept : {n : ℕ} {cs ls ks p₀ work₀ : List ℕ} → Walkable n cs ls ks p₀ work₀ → {k : ℕ} {work p : List ℕ} → Walking n cs ls ks work₀ k work p → length p ≡ length p₀
+parents-kept {n} {cs} h g = g .long ∙ sym (ap length (h .own) ∙ length-range 0 (length cs))
+
+pub walk-ends : {n : ℕ} {cs ls ks work₀ : List ℕ} {k : ℕ} {work p : List ℕ} → Walking n cs ls ks work₀ k work p → length cs ≤ k → Walking n cs ls ks work₀ (length cs) work p
+walk-ends {n} {cs} {ls} {ks} {work₀} {k} {work} {p} g h =
+    let all : k ≡ length cs = omega (arith, g .place) in
+    subst (λ (i : ℕ). Walking n cs ls ks work₀ i work p) all g
 
 module _ {n : ℕ} {cs ls ks : List ℕ} (passes : Passes n cs ls ks) {work₀ work p : List ℕ} {k : ℕ} (g : Walking n cs ls ks work₀ k work p) (less : k < length cs) where
   pub place : {w x y s : ℕ} → w ≡ sideOf n → x ≡ column 16 (getD cs k 0) → y ≡ row 16 (getD cs k 0) → s ≡ sideOf (getD ls k 0) → Place n cs ls k w x y s

@@ -1,3 +1,4 @@
+use Rattle.regions.specs.Sides.{side-after}
 use borrow.Author.Needs.{needs}
 use Rattle.regions.proofs.walk.join_sides.Statement.{statement}
 use Rattle.regions.proofs.walk.join_sides.Tie as tie
@@ -15,7 +16,7 @@ add-join-side c = search needs
 
 -- src/walk.rt:57:5
 join-side-requires-2 : tie.Need-join-side-requires-2
-join-side-requires-2 c κs = search needs
+join-side-requires-2 c κs = side-after (c .before .before .before .before .before .before .before .before .pre .west) (c .before .before .before .join-side .ensures)
 
 -- src/walk.rt:52:1
 same-length : tie.Need-same-length

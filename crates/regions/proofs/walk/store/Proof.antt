@@ -1,3 +1,7 @@
+use mathlib.Core.Path.{ap, _∙_}
+use mathlib.Core.List.{List}
+use Prim.Native.Nat.{ℕ, _+_}
+use Rattle.components.specs.Stretches.{fill}
 use borrow.Author.Needs.{needs}
 use Rattle.regions.proofs.walk.store.Statement.{statement}
 use Rattle.regions.proofs.walk.store.Tie as tie
@@ -23,7 +27,9 @@ same-length c = search needs
 
 -- src/walk.rt:74:1
 returns : tie.Need-returns
-returns c = search needs
+returns c =
+    let a = c .before .before .before .before .before .before .before .before .before .args in
+    c .before .before .fill2 .ensures ∙ ap (λ (l : List ℕ). fill l (a .w + a .y) (a .s) (a .k)) (c .before .before .before .before .before .before .fill .ensures)
 
 pub store-spec : {M : Type 1} → statement M
 store-spec = tie.close (tie.spec fill-requires add-fill fill-requires-2 same-length returns)
