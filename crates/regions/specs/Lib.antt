@@ -1,0 +1,3 @@
+-- What the numbering of regions promises, and the laws its loops follow.
+pub mod Sides
+pub mod Walk
