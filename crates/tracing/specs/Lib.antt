@@ -1,0 +1,4 @@
+-- The map of regions with its marks, and the walk along one cycle.
+pub mod Mapped
+pub mod Promise
+pub mod Look
