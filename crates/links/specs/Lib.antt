@@ -3,3 +3,5 @@ pub mod Rising
 pub mod TopRows
 pub mod Links
 pub mod Candidates
+pub mod Ahead
+pub mod FirstCycles
