@@ -30,6 +30,15 @@ cyclesIn os es cs count = cyclesFrom os es cs count 0 count
 unfoldable pub endsLine : List ℕ → ℕ → ℕ → Bool
 endsLine os count k = leb count (k + 1) || not (eqb (getD os (k + 1) 0) (getD os k 0))
 
+module _ (os : List ℕ) (count k : ℕ) where
+  pub line-at-end : count ≤ k + 1 → true ≡ endsLine os count k
+  unfolding endsLine
+  line-at-end h = ap (λ (b : Bool). b || not (eqb (getD os (k + 1) 0) (getD os k 0))) (sym (le-leb count (k + 1) h))
+
+  pub line-by-owners : k + 1 < count → not (eqb (getD os (k + 1) 0) (getD os k 0)) ≡ endsLine os count k
+  unfolding endsLine
+  line-by-owners h = ap (λ (b : Bool). b || not (eqb (getD os (k + 1) 0) (getD os k 0))) (sym (lt-leb count (k + 1) h))
+
 module _ (os es cs : List ℕ) (count k : ℕ) where
   -- The cycles left, with the first of them taken off.
   pub cycle-next : k < count → cyclesFrom os es cs count k (count - k)
@@ -44,12 +53,12 @@ module _ (os es cs : List ℕ) (count k : ℕ) where
   cycles-end h = let e : count - k ≡ 0 = omega arith in rw e refl
 
   pub ends-line : isLast (getD os k 0) (cyclesFrom os es cs count (k + 1) (count - (k + 1))) ≡ endsLine os count k
-  unfolding isLast cyclesFrom endsLine
+  unfolding isLast cyclesFrom
   ends-line = pick (count - (k + 1)) refl
     where
       pick : (left : ℕ) → count - (k + 1) ≡ left → isLast (getD os k 0) (cyclesFrom os es cs count (k + 1) left) ≡ endsLine os count k
-      pick zero e = ap (λ (b : Bool). b || not (eqb (getD os (k + 1) 0) (getD os k 0))) (sym (le-leb count (k + 1) (omega arith)))
-      pick (suc left) e = ap (λ (b : Bool). b || not (eqb (getD os (k + 1) 0) (getD os k 0))) (sym (lt-leb count (k + 1) (omega arith)))
+      pick zero e = line-at-end os count k (omega arith)
+      pick (suc left) e = line-by-owners os count k (omega arith)
 
 -- Lists that agree with a listing, entry by entry, hold it.
 agreeing : (os es cs : List ℕ) (count k : ℕ) (l : List Cycle) → ((i : ℕ) → i < length l → getD os (k + i) 0 ≡ getD (owners l) i 0)
