@@ -27,3 +27,5 @@ pub mod Unmarked
 pub mod Chains
 pub mod Links
 pub mod Underway
+pub mod Heads
+pub mod Appending

@@ -1,20 +1,20 @@
 -- The walk along one cycle that writes its corners and marks its eastward edges: what holds before and after each edge.
 use mathlib.Core.Path.{_≡_, refl, sym, ap, _∙_, subst}
 use mathlib.Core.Logic.{_≢_}
-use mathlib.Core.Bool.{Bool, true, false, cond}
+use mathlib.Core.Bool.{cond}
 use mathlib.Core.List.{List, [], _∷_, _++_, append-assoc, append-nil}
 use Prim.Native.Nat.{ℕ, zero, suc, _+_, _≤_, _<_}
 use native.Mathlib.Nat.{not-suc-le-zero, le-trans, le-of-lt}
 use native.Mathlib.Decide.{ℕ-discrete}
 use native.Mathlib.Omega.{arith}
-use lib.ListN.{length, getD, set, length-append, length-set}
+use lib.ListN.{length, set, length-append, length-set}
 use lib.Dec.{eqb}
 use borrow.Author.Tests.{eq-eqb, ne-eqb}
 use Rattle.sequences.specs.Over.{over, over-push, over-none}
 use Rattle.lattice.specs.Directions.{tail, digit}
 use Rattle.lattice.specs.Walks.{turns, corners}
 use Rattle.lattice.specs.Corners.{turns-on, turns-turn}
-use Rattle.orbits.specs.Orbits.{iter, orbit, until, Returns}
+use Rattle.orbits.specs.Orbits.{orbit, until, Returns}
 use Rattle.orbits.specs.Ahead.{Ahead, round, arrived, Further, further}
 use Rattle.grid.specs.Map.{regionAt}
 use Rattle.grid.specs.Margins.{Margin}
