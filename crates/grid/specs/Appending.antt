@@ -29,7 +29,7 @@ unfolding endsFrom allCorners
 ends-from-append at [] y = let z : at + 0 + length (y .points) ≡ at + length (y .points) = omega arith in ap (λ e. e ∷ []) (sym z)
 ends-from-append at (x ∷ xs) y =
     let z : at + length (x .points) + length (allCorners xs) + length (y .points) ≡ at + length (x .points ++ allCorners xs) + length (y .points) =
-      omega (arith, length-append (x .points) (allCorners xs)) in
+    omega (arith, length-append (x .points) (allCorners xs)) in
     ap (λ (l : List ℕ). (at + length (x .points)) ∷ l) (ends-from-append (at + length (x .points)) xs y)
     ∙ ap (λ e. (at + length (x .points)) ∷ (endsFrom (at + length (x .points)) xs ++ (e ∷ []))) z
 

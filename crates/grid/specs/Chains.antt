@@ -89,7 +89,7 @@ module _ (nums : List ℕ) (r : ℕ) where
             high = omega (arith, ih .high);
             found = λ l. ap (λ x. getD nums x 0) e ∙ ih .found (omega arith);
             same = pixels-later a k h ∙ ih .same
-              ∙ ap₂ (λ x y. pixelsIn nums r x (y - x)) (sym e) z;
+                ∙ ap₂ (λ x y. pixelsIn nums r x (y - x)) (sym e) z;
           }
 
   -- From a pixel of the region on: itself, and the chain from the next one.

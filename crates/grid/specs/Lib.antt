@@ -29,3 +29,4 @@ pub mod Links
 pub mod Underway
 pub mod Heads
 pub mod Appending
+pub mod Ways

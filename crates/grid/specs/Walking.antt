@@ -140,7 +140,7 @@ module _ {side r s : ℕ} {w₀ c₀ : List ℕ} (ready : Ready side r s w₀ c�
     pub room-here : (d ≡ digit e → ⊥) → used < length c
     room-here n =
         let l : length (g .done ++ tail e ∷ turns (digit e) next) ≡ length (cornersFrom m s) =
-          ap (λ t. length (g .done ++ t)) (sym (turns-turn d e next n)) ∙ ap length (g .total) in
+        ap (λ t. length (g .done ++ t)) (sym (turns-turn d e next n)) ∙ ap length (g .total) in
         let a : length (g .done) < length c₀ = omega (arith, l, ready .room, length-append (g .done) (tail e ∷ turns (digit e) next)) in
         omega (arith, a, g .wide, g .so-far)
 
