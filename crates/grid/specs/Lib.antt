@@ -27,3 +27,6 @@ pub mod Unmarked
 pub mod Chains
 pub mod Links
 pub mod Underway
+pub mod Heads
+pub mod Appending
+pub mod Ways
