@@ -5,3 +5,4 @@ pub mod Links
 pub mod Candidates
 pub mod Ahead
 pub mod FirstCycles
+pub mod Forward
