@@ -16,12 +16,7 @@ unfoldable pub blockOf : List ℕ → List ℕ → List ℕ → ℕ → Block
 blockOf codes levels colours i = record { code = getD codes i 0; level = getD levels i 0; colour = getD colours i 0 }
 
 pub length-blocks : (cs ls ks : List ℕ) → EqualLengths cs ls ks → length (blocks cs ls ks) ≡ length cs
-unfolding blocks
-length-blocks [] ls ks e = refl
-length-blocks (c ∷ cs) [] ks e = absurd (omega (arith, e .levels-too))
-length-blocks (c ∷ cs) (l ∷ ls) [] e = absurd (omega (arith, e .colours-too))
-length-blocks (c ∷ cs) (l ∷ ls) (k ∷ ks) e =
-    ap suc (length-blocks cs ls ks (record { levels-too = omega (arith, e .levels-too); colours-too = omega (arith, e .colours-too) }))
+length-blocks cs ls ks e = count-of-blocks cs ls ks (e .levels-too) (e .colours-too)
 
 -- The rest of a block list from the place i on begins with the block there.
 pub rest-of-blocks : (cs ls ks : List ℕ) → EqualLengths cs ls ks → (i : ℕ) → i < length cs
