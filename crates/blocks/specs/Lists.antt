@@ -6,6 +6,7 @@ use native.Mathlib.Numerals.{add-one}
 use native.Mathlib.Omega.{arith}
 use lib.ListN.{length, getD, drop}
 use Rattle.quadtree.specs.Blocks.{Block, blocks}
+use Rattle.quadtree.specs.Fields.{length-blocks as count-of-blocks}
 
 pub record EqualLengths (codes levels colours : List ℕ) : Type 0 where
   pub levels-too : length codes ≡ length levels
