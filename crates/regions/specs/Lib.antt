@@ -3,3 +3,4 @@ pub mod Sides
 pub mod Walk
 pub mod Promise
 pub mod Labelling
+pub mod Callers
