@@ -61,15 +61,16 @@ module _ {n : ℕ} {cs ls ks labels₀ work₀ : List ℕ} {need : ℕ} (ready :
       counted = c ∙ regions-found (ready .passes) w (omega arith);
     }
 
+-- The entries that the work list needs: few enough to be worked out in 64 bits.
+pub need-is : (n : ℕ) (cs ls ks : List ℕ) → number n cs ls ks ≡ 0 → {w : ℕ} → w ≡ pixelsOf n → (w ≤ 65536) × (2 * w ≡ 2 * 4 ^ n)
+need-is n cs ls ks accepted {w} e =
+    let small : n ≤ 8 = number-zero n cs ls ks accepted .small in
+    let at : w ≡ 4 ^ n = e ∙ pixels-are-power n (omega arith) in
+    let most : 4 ^ n ≤ 65536 = pow4-mono small in
+    (omega arith, ap (λ (x : ℕ). 2 * x) at)
+
 -- The first entries of the label list, one a block, are lent and come back.
 module _ (n : ℕ) (cs ls ks labels₀ work₀ : List ℕ) (accepted : number n cs ls ks ≡ 0) (long : length cs ≤ length labels₀) where
-  pub need-is : {w : ℕ} → w ≡ pixelsOf n → (w ≤ 65536) × (2 * w ≡ 2 * 4 ^ n)
-  need-is {w} e =
-      let small : n ≤ 8 = number-zero n cs ls ks accepted .small in
-      let at : w ≡ 4 ^ n = e ∙ pixels-are-power n (omega arith) in
-      let most : 4 ^ n ≤ 65536 = pow4-mono small in
-      (omega arith, ap (λ (x : ℕ). 2 * x) at)
-
   pub numberable : {need : ℕ} → need ≡ 2 * 4 ^ n → need ≤ length work₀ → Numberable n cs ls ks (take (length cs) labels₀) work₀ need
   numberable e h = record { passes = number-zero n cs ls ks accepted; one-a-block = length-take-le (length cs) labels₀ long; size = e; room = h }
 
