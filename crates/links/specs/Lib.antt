@@ -6,3 +6,4 @@ pub mod Candidates
 pub mod Ahead
 pub mod FirstCycles
 pub mod Forward
+pub mod Relabelled
