@@ -7,3 +7,4 @@ pub mod Ahead
 pub mod FirstCycles
 pub mod Forward
 pub mod Relabelled
+pub mod Linking
