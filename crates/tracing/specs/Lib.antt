@@ -2,3 +2,7 @@
 pub mod Mapped
 pub mod Promise
 pub mod Look
+pub mod Rule
+pub mod Marks
+pub mod Walking
+pub mod Points
