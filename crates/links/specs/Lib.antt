@@ -8,3 +8,4 @@ pub mod FirstCycles
 pub mod Forward
 pub mod Relabelled
 pub mod Linking
+pub mod OverTwice
