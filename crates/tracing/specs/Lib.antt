@@ -6,3 +6,4 @@ pub mod Rule
 pub mod Marks
 pub mod Walking
 pub mod Points
+pub mod Progress
