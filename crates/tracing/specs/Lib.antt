@@ -8,3 +8,4 @@ pub mod Walking
 pub mod Points
 pub mod Progress
 pub mod Unmarked
+pub mod Written

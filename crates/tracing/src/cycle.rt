@@ -11,6 +11,7 @@ ghost use Rattle.lattice.specs.Directions.{edge};
 ghost use Rattle.tracing.specs.Marks.{mark};
 ghost use Rattle.tracing.specs.Walking.{Ready, Walked};
 ghost use Rattle.tracing.specs.Points.{Along};
+ghost use Rattle.tracing.specs.Promise.{StartsHere, CycleWritten};
 
 // Writes the point p, where the digit d is not the one before.
 fn put_corner(corners: &mut [u32], used: usize, before: u8, p: u32, d: u8) -> usize
@@ -54,4 +55,15 @@ fn walk(map: &mut [u32], side: u32, r: u32, start: u32, corners: &mut [u32]) -> 
             return used;
         }
     }
+}
+
+// Writes the cycle that starts at the pixel (x, y): its corners to the front of the list, in which they have room. Gives their number.
+pub(crate) fn write_cycle(n: u32, map: &mut [u32], x: u32, y: u32, corners: &mut [u32]) -> usize
+    requires { ⌜ StartsHere n (now map) (now corners) x y ⌝ }
+    ensures { λ k. ⌜ CycleWritten n (now (map .entry)) (now (corners .entry)) (code n x y) (now (map .exit)) (now (corners .exit)) k ⌝ }
+{
+    let side = location::side(n) as u32;
+    let i = (y * side + x) as usize;
+    let r = map[i] % 131072;
+    walk(map, side, r, 512 * y + x, corners)
 }
