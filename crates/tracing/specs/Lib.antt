@@ -9,3 +9,4 @@ pub mod Points
 pub mod Progress
 pub mod Unmarked
 pub mod Written
+pub mod Turn
