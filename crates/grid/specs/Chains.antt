@@ -1,12 +1,12 @@
 -- The pixels of a region in rising code, one linked to the next.
-use mathlib.Core.Path.{_≡_, refl, sym, ap, ap₂, _∙_, subst}
-use mathlib.Core.Logic.{_≢_, _⊎_, inl, inr}
-use mathlib.Core.Bool.{Bool, true, false, false≢true}
+use mathlib.Core.Path.{_≡_, refl, sym, ap, ap₂, _∙_}
+use mathlib.Core.Logic.{_≢_}
+use mathlib.Core.Bool.{Bool, true, false}
 use mathlib.Core.List.{List, [], _∷_}
 use Prim.Native.Nat.{ℕ, zero, suc, _+_, _-_, _^_, _≤_, _<_}
-use native.Mathlib.Decide.{ℕ-discrete, decLt}
+use native.Mathlib.Decide.{ℕ-discrete}
 use native.Mathlib.Omega.{arith}
-use lib.ListN.{length, getD}
+use lib.ListN.{getD}
 use lib.Dec.{eqb}
 use borrow.Author.Tests.{eq-eqb, ne-eqb}
 use Rattle.sequences.specs.Ranges.{range}
@@ -89,7 +89,7 @@ module _ (nums : List ℕ) (r : ℕ) where
             high = omega (arith, ih .high);
             found = λ l. ap (λ x. getD nums x 0) e ∙ ih .found (omega arith);
             same = pixels-later a k h ∙ ih .same
-              ∙ ap₂ (λ x y. pixelsIn nums r x (y - x)) (sym e) z;
+                ∙ ap₂ (λ x y. pixelsIn nums r x (y - x)) (sym e) z;
           }
 
   -- From a pixel of the region on: itself, and the chain from the next one.

@@ -1,9 +1,9 @@
 -- The marks of eastward edges in a list of rows: what a mark changes in the list, and that it changes nothing in the map.
 use mathlib.Core.Path.{_≡_, refl, sym, ap, _∙_, subst, fun-ext}
 use mathlib.Core.Logic.{_≢_, _⊎_, inl, inr}
-use mathlib.Core.Bool.{Bool, true, false, cond}
+use mathlib.Core.Bool.{cond}
 use mathlib.Core.List.{List, [], _∷_}
-use Prim.Native.Nat.{ℕ, zero, suc, _+_, _-_, _*_, _/_, _%_, _≤_, _<_}
+use Prim.Native.Nat.{ℕ, suc, _+_, _-_, _*_, _%_, _≤_, _<_}
 use native.Mathlib.Decide.{ℕ-discrete}
 use native.Mathlib.Omega.{arith}
 use lib.ListN.{length, getD, set, length-set}
@@ -13,8 +13,8 @@ use borrow.Author.Tests.{eq-eqb, ne-eqb}
 use Rattle.lattice.specs.Directions.{xOf, yOf, tail, digit}
 use Rattle.orbits.specs.Members.{In, in-first, in-later, in-cases, in-none}
 use Rattle.grid.specs.Map.{around}
-use Rattle.grid.specs.Steps.{Side, Edge}
-use Rattle.grid.specs.Rows.{rowsAt, Fit, Inside, split, place-below, row-start-small, rows-inside}
+use Rattle.grid.specs.Steps.{Edge}
+use Rattle.grid.specs.Rows.{rowsAt, Fit, split, place-below, row-start-small, rows-inside}
 
 -- The place, in rows of the length `side`, of the pixel southeast of the point p.
 abbrev pub spot : ℕ → ℕ → ℕ

@@ -1,21 +1,18 @@
 -- The listing underway: regions one after the other, and in a region its pixels by rising codes.
-use mathlib.Core.Path.{_≡_, refl, sym, ap, ap₂, _∙_, subst}
+use mathlib.Core.Path.{_≡_, refl, sym, ap, _∙_, subst}
 use mathlib.Core.Logic.{_≢_, _⊎_, inl, inr}
-use mathlib.Core.Bool.{Bool, true, false, false≢true}
-use mathlib.Core.List.{List, [], _∷_, _++_, flatMap, map, append-assoc, append-nil}
-use Prim.Native.Nat.{ℕ, zero, suc, _+_, _-_, _^_, _≤_, _<_}
-use native.Mathlib.Decide.{ℕ-discrete, decLt}
+use mathlib.Core.Bool.{Bool, true, false}
+use mathlib.Core.List.{List, [], _∷_, _++_, flatMap, append-assoc, append-nil}
+use Prim.Native.Nat.{ℕ, suc, _+_, _-_, _^_, _≤_, _<_}
 use native.Mathlib.Omega.{arith}
 use lib.ListN.{length, getD, length-append, List·getD-append}
 use lib.Seq.{getD-append-add}
 use Rattle.sequences.specs.Ranges.{range, length-range, range-at}
-use Rattle.lattice.specs.Walks.{corners}
-use Rattle.orbits.specs.Members.{In, Distinct, in-left, in-right, in-append, in-flat, in-first}
+use Rattle.orbits.specs.Members.{In, Distinct, in-left, in-append, in-flat, in-first}
 use Rattle.grid.specs.Map.{regionAt, around}
-use Rattle.grid.specs.Steps.{Edge}
-use Rattle.grid.specs.Cycles.{cornerOf, northSide, cycle, isStart}
-use Rattle.grid.specs.Listing.{keep, starts, startCodes, Cycle, cycleAt, listing, owners, endsFrom, ends, allCorners}
-use Rattle.grid.specs.North.{corner-here, north-edge}
+use Rattle.grid.specs.Cycles.{cornerOf, cycle, isStart}
+use Rattle.grid.specs.Listing.{keep, starts, startCodes}
+use Rattle.grid.specs.North.{north-edge}
 use Rattle.grid.specs.Starting.{StartAt, start-says, says-start}
 use Rattle.grid.specs.Keeping.{keep-yes, keep-no, in-keep, in-starts, in-start-codes, start-codes-distinct}
 use Rattle.grid.specs.Marks.{marks}
@@ -138,6 +135,10 @@ module _ (n : ℕ) (nums : List ℕ) (regions : ℕ) where
     unfolding startsFrom
     from-no t = ap (keep (isStart n nums)) chained ∙ keep-no (isStart n nums) c (pixelsIn nums r next (4 ^ n - next)) t
 
+    -- Where a cycle starts at c, it is the next to be written.
+    pub next-start : isStart n nums c ≡ true → codes ++ c ∷ (startsFrom n nums r next ++ startsAfter n nums regions (suc r)) ≡ startCodes n nums regions
+    next-start t = ap (λ (l : List ℕ). codes ++ (l ++ startsAfter n nums regions (suc r))) (sym (from-yes t)) ∙ p .split
+
     -- No cycle starts there.
     pub pass : isStart n nums c ≡ false → Pixelwise n nums regions w codes r next
     pass t = record {
@@ -150,8 +151,7 @@ module _ (n : ℕ) (nums : List ℕ) (regions : ℕ) where
     write t = record {
       marked = written n nums small (p .marked) c (start-says n nums small c h t);
       split =
-          append-assoc codes (c ∷ []) (startsFrom n nums r next ++ startsAfter n nums regions (suc r))
-          ∙ ap (λ (l : List ℕ). codes ++ (l ++ startsAfter n nums regions (suc r))) (sym (from-yes t)) ∙ p .split;
+          append-assoc codes (c ∷ []) (startsFrom n nums r next ++ startsAfter n nums regions (suc r)) ∙ next-start t;
     }
 
     -- The starts of the region before c are written.

@@ -1,29 +1,26 @@
 -- What the marks say while cycles are written: a pixel bears a mark exactly where its north side lies on a cycle that was written,
 -- so an edge without a mark is where the next cycle starts.
-use mathlib.Core.Path.{_≡_, refl, sym, ap, ap₂, _∙_, subst}
-use mathlib.Core.Logic.{_≢_, _⊎_, inl, inr}
-use mathlib.Core.Bool.{Bool, true, false, false≢true}
+use mathlib.Core.Path.{_≡_, sym, ap, ap₂, _∙_, subst}
+use mathlib.Core.Logic.{_⊎_, inl, inr}
 use mathlib.Core.List.{List, [], _∷_, _++_}
-use Prim.Native.Nat.{ℕ, zero, suc, _+_, _-_, _*_, _/_, _%_, _^_, _≤_, _<_}
-use native.Mathlib.Decide.{ℕ-discrete}
+use Prim.Native.Nat.{ℕ, suc, _+_, _*_, _/_, _%_, _^_, _≤_, _<_}
 use native.Mathlib.Omega.{arith}
 use lib.Arith.{digits-div, digits-mod}
 use lib.ListN.{length, getD}
 use Rattle.sequences.specs.Powers.{pow2-pos, square-of-side}
 use Rattle.location.specs.Codes.{code, column, row}
-use Rattle.location.specs.Interleaving.{column-below, row-below, code-of-coordinates}
-use Rattle.lattice.specs.Directions.{point, xOf, yOf, edge, tail, digit}
+use Rattle.location.specs.Interleaving.{column-below, code-of-coordinates}
+use Rattle.lattice.specs.Directions.{xOf, yOf, tail, digit}
 use Rattle.orbits.specs.Members.{In, in-first, in-single, in-none, in-dec, in-left, in-right, in-append}
-use Rattle.grid.specs.Map.{regionAt, around}
-use Rattle.grid.specs.Margins.{Margin}
+use Rattle.grid.specs.Map.{regionAt}
 use Rattle.grid.specs.Steps.{Edge}
-use Rattle.grid.specs.Cycles.{cornerOf, northSide, cycle, codeRight, isStart}
-use Rattle.grid.specs.Returning.{Ring, ring}
-use Rattle.grid.specs.North.{side-small, corner-x, corner-y, corner-here, north-tail, north-digit, north-code, north-edge, Eastward, eastward}
-use Rattle.grid.specs.Starting.{StartAt, margin, start-says, says-start}
-use Rattle.grid.specs.Unseen.{OnCycleOf, start-unseen, unseen-starts}
+use Rattle.grid.specs.Cycles.{cornerOf, northSide, cycle, codeRight}
+use Rattle.grid.specs.Returning.{ring}
+use Rattle.grid.specs.North.{side-small, corner-x, corner-y, north-tail, north-digit, Eastward, eastward}
+use Rattle.grid.specs.Starting.{StartAt, margin}
+use Rattle.grid.specs.Unseen.{start-unseen, unseen-starts}
 use Rattle.grid.specs.Rows.{rowsAt, Fit, Painted, rows-hold-map}
-use Rattle.grid.specs.Marks.{spot, marks, length-marks, Hit, Held, marks-hit, marks-miss, edges-held, rows-marks}
+use Rattle.grid.specs.Marks.{spot, marks, length-marks, marks-hit, marks-miss, edges-held, rows-marks}
 
 -- The place, row by row, of the pixel with the code c.
 abbrev pub placeOf : ℕ → ℕ → ℕ

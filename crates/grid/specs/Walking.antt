@@ -1,20 +1,20 @@
 -- The walk along one cycle that writes its corners and marks its eastward edges: what holds before and after each edge.
 use mathlib.Core.Path.{_≡_, refl, sym, ap, _∙_, subst}
 use mathlib.Core.Logic.{_≢_}
-use mathlib.Core.Bool.{Bool, true, false, cond}
+use mathlib.Core.Bool.{cond}
 use mathlib.Core.List.{List, [], _∷_, _++_, append-assoc, append-nil}
 use Prim.Native.Nat.{ℕ, zero, suc, _+_, _≤_, _<_}
 use native.Mathlib.Nat.{not-suc-le-zero, le-trans, le-of-lt}
 use native.Mathlib.Decide.{ℕ-discrete}
 use native.Mathlib.Omega.{arith}
-use lib.ListN.{length, getD, set, length-append, length-set}
+use lib.ListN.{length, set, length-append, length-set}
 use lib.Dec.{eqb}
 use borrow.Author.Tests.{eq-eqb, ne-eqb}
 use Rattle.sequences.specs.Over.{over, over-push, over-none}
 use Rattle.lattice.specs.Directions.{tail, digit}
 use Rattle.lattice.specs.Walks.{turns, corners}
 use Rattle.lattice.specs.Corners.{turns-on, turns-turn}
-use Rattle.orbits.specs.Orbits.{iter, orbit, until, Returns}
+use Rattle.orbits.specs.Orbits.{orbit, until, Returns}
 use Rattle.orbits.specs.Ahead.{Ahead, round, arrived, Further, further}
 use Rattle.grid.specs.Map.{regionAt}
 use Rattle.grid.specs.Margins.{Margin}
@@ -140,7 +140,7 @@ module _ {side r s : ℕ} {w₀ c₀ : List ℕ} (ready : Ready side r s w₀ c�
     pub room-here : (d ≡ digit e → ⊥) → used < length c
     room-here n =
         let l : length (g .done ++ tail e ∷ turns (digit e) next) ≡ length (cornersFrom m s) =
-          ap (λ t. length (g .done ++ t)) (sym (turns-turn d e next n)) ∙ ap length (g .total) in
+        ap (λ t. length (g .done ++ t)) (sym (turns-turn d e next n)) ∙ ap length (g .total) in
         let a : length (g .done) < length c₀ = omega (arith, l, ready .room, length-append (g .done) (tail e ∷ turns (digit e) next)) in
         omega (arith, a, g .wide, g .so-far)
 

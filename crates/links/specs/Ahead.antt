@@ -46,7 +46,7 @@ keep-same test other (x ∷ xs) same = pick (test x) refl (keep-same test other 
     pick false t ih = keep-no test x xs t ∙ ih ∙ sym (keep-no other x xs (sym here ∙ t))
 
 -- What comes after the first entries of a list, in two parts.
-drop-part : (l xs ys : List ℕ) (k : ℕ) → drop k l ≡ xs ++ ys → drop (k + length xs) l ≡ ys
+pub drop-part : (l xs ys : List ℕ) (k : ℕ) → drop k l ≡ xs ++ ys → drop (k + length xs) l ≡ ys
 drop-part l xs ys k e = sym (drop-drop (length xs) k l) ∙ ap (drop (length xs)) e ∙ drop-append-seam xs ys
 
 -- ---- what lies ahead
@@ -140,7 +140,7 @@ module _ (n : ℕ) (nums : List ℕ) where
 -- ---- where the next cycle starts
 
 module _ (n : ℕ) (nums : List ℕ) (small : n ≤ 8) (c : ℕ) (cs : List ℕ) (k : ℕ) (ahead : Ahead n nums (c ∷ cs) k) where
-  here-inside : c < 4 ^ n
+  pub here-inside : c < 4 ^ n
   here-inside = ahead .inside c (in-first c (cs ++ ahead .todo)) .0
 
   here-number : getD nums c 0 ≡ ahead .region

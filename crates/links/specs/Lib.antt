@@ -5,3 +5,7 @@ pub mod Links
 pub mod Candidates
 pub mod Ahead
 pub mod FirstCycles
+pub mod Forward
+pub mod Relabelled
+pub mod Linking
+pub mod OverTwice

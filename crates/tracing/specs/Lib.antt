@@ -3,3 +3,10 @@ pub mod Mapped
 pub mod Promise
 pub mod Look
 pub mod Rule
+pub mod Marks
+pub mod Walking
+pub mod Points
+pub mod Progress
+pub mod Unmarked
+pub mod Written
+pub mod Turn

@@ -63,6 +63,20 @@ at-south side map (suc x) (suc y) h =
       | no a ↦ rw (le-ltb x side (omega arith), mapAt)
     ]
 
+-- Lists that differ in marks only are one map.
+pub at-same : (side : ℕ) (map map′ : List ℕ) → ((j : ℕ) → getD map′ j 0 % 131072 ≡ getD map j 0 % 131072) → mapAt side map′ ≡ mapAt side map
+at-same side map map′ same = fun-ext (λ X. fun-ext (λ Y. at X Y))
+  where
+    inside : (x y : ℕ) → Dec (x < side) → Dec (y < side) → mapAt side map′ (suc x) (suc y) ≡ mapAt side map (suc x) (suc y)
+    inside x y (no a) b = at-east side map′ (suc x) (suc y) (omega arith) ∙ sym (at-east side map (suc x) (suc y) (omega arith))
+    inside x y (yes a) (no b) = at-south side map′ (suc x) (suc y) (omega arith) ∙ sym (at-south side map (suc x) (suc y) (omega arith))
+    inside x y (yes a) (yes b) = at-inside side map′ x y a b ∙ same (y * side + x) ∙ sym (at-inside side map x y a b)
+
+    at : (X Y : ℕ) → mapAt side map′ X Y ≡ mapAt side map X Y
+    at zero Y = at-west side map′ 0 Y refl ∙ sym (at-west side map 0 Y refl)
+    at (suc x) zero = at-north side map′ (suc x) 0 refl ∙ sym (at-north side map (suc x) 0 refl)
+    at (suc x) (suc y) = inside x y (decLt x side) (decLt y side)
+
 -- Inside, as the code reaches it: one less in X and in Y.
 pub at-entry : (side : ℕ) (map : List ℕ) (X Y : ℕ) → 0 < X → 0 < Y → X ≤ side → Y ≤ side → mapAt side map X Y ≡ getD map ((Y - 1) * side + (X - 1)) 0 % 131072
 at-entry side map zero Y a b h k = absurd (omega arith)
