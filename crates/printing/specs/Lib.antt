@@ -3,3 +3,5 @@ pub mod Lines
 pub mod Outlines
 pub mod Held
 pub mod Writing
+pub mod Printed
+pub mod Printable
