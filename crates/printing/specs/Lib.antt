@@ -5,3 +5,4 @@ pub mod Held
 pub mod Writing
 pub mod Printed
 pub mod Printable
+pub mod Examples
