@@ -1,9 +1,9 @@
 -- From a raster to its lines: what is asked at each step, and what each step says.
 use mathlib.Core.Path.{_≡_, refl, sym, ap, ap₂, _∙_, subst}
-use mathlib.Core.List.{List, _++_}
+use mathlib.Core.List.{List, _++_, map}
 use Prim.Native.Nat.{ℕ, _*_, _^_, _≤_, _<_}
 use native.Mathlib.Omega.{arith}
-use lib.ListN.{length, take, drop, length-append}
+use lib.ListN.{length, take, drop, length-append, length-map}
 use Rattle.sequences.specs.Over.{over}
 use Rattle.sequences.specs.Powers.{pow4-mono}
 use Rattle.quadtree.specs.Blocks.{Block, blocks, paint}
@@ -13,7 +13,7 @@ use Rattle.quadtree.specs.Painting.{paint-quadtree}
 use Rattle.quadtree.specs.Quadtree.{quadtree}
 use Rattle.quadtree.specs.Raster.{inCodeOrder}
 use Rattle.quadtree.specs.Orders.{length-in-code-order}
-use Rattle.blocks.specs.Rasters.{FromRaster, raster-accepted}
+use Rattle.blocks.specs.Rasters.{blocksWritten, FromRaster, raster-accepted}
 use Rattle.blocks.specs.RoundTrip.{codes-written, levels-written, colours-written, merged-accepted}
 use Rattle.blocks.specs.declared.Written.{Written}
 use Rattle.grid.specs.Listing.{Cycle, owners, ends, allCorners}
@@ -40,6 +40,24 @@ pub record Traceable (n : ℕ) (cs ls ks text : List ℕ) : Type 0 where
 pub few-pixels : {n : ℕ} → n ≤ 6 → 4 ^ n ≤ 4096
 few-pixels {n} h = pow4-mono {i = n} {j = 6} h
 
+-- What was laid over a list is no longer than the list then is.
+over-holds : {A : Type 0} (bs : List A) (f : A → ℕ) (old : List ℕ) {list : List ℕ} {k : ℕ} → list ≡ over (map f bs) old → k ≡ length bs → k ≤ length list
+unfolding over
+over-holds bs f old e h = omega (arith, ap length e, length-append (map f bs) (drop (length (map f bs)) old), length-map bs f)
+
+module _ {n : ℕ} {raster cs ls ks cs₁ ls₁ ks₁ : List ℕ} {r : Written} (p : FromRaster n raster cs ls ks cs₁ ls₁ ks₁ r) where
+  count-is : r .count ≡ length (blocksWritten n raster cs ls ks)
+  count-is = ap (λ (w : Written). w .count) (p .answer)
+
+  pub count-in-codes : r .count ≤ length cs₁
+  count-in-codes = over-holds (blocksWritten n raster cs ls ks) (λ (b : Block). b .code) cs (p .in-codes) count-is
+
+  pub count-in-levels : r .count ≤ length ls₁
+  count-in-levels = over-holds (blocksWritten n raster cs ls ks) (λ (b : Block). b .level) ls (p .in-levels) count-is
+
+  pub count-in-colours : r .count ≤ length ks₁
+  count-in-colours = over-holds (blocksWritten n raster cs ls ks) (λ (b : Block). b .colour) ks (p .in-colours) count-is
+
 -- The quadtree of the raster is merged into lists that have room for it.
 module _ {n : ℕ} {raster text cs ls ks cs₁ ls₁ ks₁ : List ℕ} {r : Written} (d : Drawing n raster text) (p : FromRaster n raster cs ls ks cs₁ ls₁ ks₁ r)
     (a : 4096 ≤ length cs) (b : 4096 ≤ length ls) (c : 4096 ≤ length ks) where
@@ -53,12 +71,16 @@ module _ {n : ℕ} {raster text cs ls ks cs₁ ls₁ ks₁ : List ℕ} {r : Writ
   merged-traceable = record { low = d .low; accepted = merged-accepted p merged-zero; enough = d .enough }
 
   -- It paints the raster's image.
-  pub merged-image : paint (blocks (take (r .count) cs₁) (take (r .count) ls₁) (take (r .count) ks₁)) ≡ inCodeOrder n raster
+  merged-image : paint (blocks (take (r .count) cs₁) (take (r .count) ls₁) (take (r .count) ks₁)) ≡ inCodeOrder n raster
   merged-image =
       let px : List ℕ = inCodeOrder n raster in
       let bs : blocks (take (r .count) cs₁) (take (r .count) ls₁) (take (r .count) ks₁) ≡ quadtree n px =
       rw (codes-written p merged-zero, levels-written p merged-zero, colours-written p merged-zero) (blocks-of-fields (quadtree n px)) in
       ap paint bs ∙ paint-quadtree n px (length-in-code-order n raster)
+
+  pub merged-drawn : {text₁ text′ : List ℕ} {k : ℕ} → Put (imageText n (paint (blocks (take (r .count) cs₁) (take (r .count) ls₁) (take (r .count) ks₁)))) text₁ text′ k
+      → Put (imageText n (inCodeOrder n raster)) text₁ text′ k
+  merged-drawn {text₁} {text′} {k} q = subst (λ (px : List ℕ). Put (imageText n px) text₁ text′ k) merged-image q
 
 -- The lists of a tracing, before (os₀, es₀, cs₀) and after, hold the outlines of an image.
 pub record Outlined (n : ℕ) (px os₀ es₀ cs₀ os es cs : List ℕ) (count : ℕ) : Type 0 where

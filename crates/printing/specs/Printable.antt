@@ -92,7 +92,7 @@ module _ {number : ℕ} {text : List ℕ} (two : (10 ≤ number) × (number < 10
 
 -- The text, the need and the number of a refusal.
 module _ (bytes : List ℕ) {number : ℕ} (some : 0 < number) (e : inputNumber bytes ≡ number) where
-  refusal-text : wholeText bytes ≡ refusedLine number
+  pub refusal-text : wholeText bytes ≡ refusedLine number
   unfolding wholeText textFor
   refusal-text = ap (λ (k : ℕ). textFor k bytes) e ∙ pick number some
     where
@@ -126,7 +126,7 @@ module _ (bytes : List ℕ) {number : ℕ} (some : 0 < number) (e : inputNumber 
 
 -- The text, the need and the number of an accepted picture.
 module _ (bytes : List ℕ) (e : inputNumber bytes ≡ 0) where
-  accepted-text : wholeText bytes ≡ pictureText bytes
+  pub accepted-text : wholeText bytes ≡ pictureText bytes
   unfolding wholeText textFor
   accepted-text = ap (λ (k : ℕ). textFor k bytes) e
 
