@@ -1,14 +1,13 @@
 -- Laws for callers: what the promise of `print` says of the text at exit.
 use mathlib.Core.Path.{_≡_, sym, ap, ap₂, _∙_}
-use mathlib.Core.List.{List, [], _∷_}
-use Prim.Native.Nat.{ℕ, _*_, _^_, _≤_, _<_}
+use mathlib.Core.List.{List}
+use Prim.Native.Nat.{ℕ, _≤_, _<_}
 use native.Mathlib.Omega.{arith}
 use lib.ListN.{length, take, drop, length-append}
 use Rattle.sequences.specs.Over.{over, take-over}
 use Rattle.paths.specs.declared.Written.{Written}
-use Rattle.pgm.specs.Picture.{answer}
-use Rattle.printing.specs.Printed.{inputNumber, pictureText, wholeText, refusedLine, textNeed, printNumber, printed, Printing}
-use Rattle.printing.specs.Printable.{accepted-text, refusal-text, text-fits, all-printed}
+use Rattle.printing.specs.Printed.{inputNumber, pictureText, wholeText, refusedLine, printed, Printing}
+use Rattle.printing.specs.Printable.{accepted-text, refusal-text, all-printed}
 
 module _ {bytes text bytes′ text′ : List ℕ} {w : Written} (p : Printing bytes text bytes′ text′ w) where
   -- The answer says how many bytes were written, and they are in the list.

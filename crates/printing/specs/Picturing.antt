@@ -1,13 +1,13 @@
 -- From a raster to its lines: what is asked at each step, and what each step says.
-use mathlib.Core.Path.{_≡_, refl, sym, ap, ap₂, _∙_, subst}
-use mathlib.Core.List.{List, _++_, map}
-use Prim.Native.Nat.{ℕ, _*_, _^_, _≤_, _<_}
+use mathlib.Core.Path.{_≡_, sym, ap, _∙_, subst}
+use mathlib.Core.List.{List, map}
+use Prim.Native.Nat.{ℕ, _*_, _^_, _≤_}
 use native.Mathlib.Omega.{arith}
 use lib.ListN.{length, take, drop, length-append, length-map}
 use Rattle.sequences.specs.Over.{over}
 use Rattle.sequences.specs.Powers.{pow4-mono}
 use Rattle.quadtree.specs.Blocks.{Block, blocks, paint}
-use Rattle.quadtree.specs.Fields.{codes, levels, colours, blocks-of-fields}
+use Rattle.quadtree.specs.Fields.{blocks-of-fields}
 use Rattle.quadtree.specs.Number.{number}
 use Rattle.quadtree.specs.Painting.{paint-quadtree}
 use Rattle.quadtree.specs.Quadtree.{quadtree}
@@ -16,10 +16,10 @@ use Rattle.quadtree.specs.Orders.{length-in-code-order}
 use Rattle.blocks.specs.Rasters.{blocksWritten, FromRaster, raster-accepted}
 use Rattle.blocks.specs.RoundTrip.{codes-written, levels-written, colours-written, merged-accepted}
 use Rattle.blocks.specs.declared.Written.{Written}
-use Rattle.grid.specs.Listing.{Cycle, owners, ends, allCorners}
+use Rattle.grid.specs.Listing.{owners, ends, allCorners}
 use Rattle.grid.specs.Stretches.{length-owners}
 use Rattle.paths.specs.Answers.{Put}
-use Rattle.printing.specs.Lines.{byCycles, Forms, room}
+use Rattle.printing.specs.Lines.{byCycles}
 use Rattle.printing.specs.Outlines.{outlinesOf, imageText, lines-by-cycles, outline-forms, outlines-room}
 use Rattle.printing.specs.Held.{cyclesIn, tracing-held}
 use Rattle.printing.specs.Writing.{Drawable}
