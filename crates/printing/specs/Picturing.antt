@@ -3,7 +3,7 @@ use mathlib.Core.Path.{_≡_, sym, ap, _∙_, subst}
 use mathlib.Core.List.{List, map}
 use Prim.Native.Nat.{ℕ, _*_, _^_, _≤_}
 use native.Mathlib.Omega.{arith}
-use lib.ListN.{length, take, drop, length-append, length-map}
+use lib.ListN.{length, take, drop, length-append, length-map, length-take}
 use Rattle.sequences.specs.Over.{over}
 use Rattle.sequences.specs.Powers.{pow4-mono}
 use Rattle.quadtree.specs.Blocks.{Block, blocks, paint}
@@ -20,7 +20,7 @@ use Rattle.grid.specs.Listing.{owners, ends, allCorners}
 use Rattle.grid.specs.Stretches.{length-owners}
 use Rattle.paths.specs.Answers.{Put}
 use Rattle.printing.specs.Lines.{byCycles}
-use Rattle.printing.specs.Outlines.{outlinesOf, imageText, lines-by-cycles, outline-forms, outlines-room}
+use Rattle.printing.specs.Outlines.{imageOutlines, imageText, lines-by-cycles, outline-forms, outlines-room}
 use Rattle.printing.specs.Held.{cyclesIn, tracing-held}
 use Rattle.printing.specs.Writing.{Drawable}
 
@@ -30,9 +30,10 @@ pub record Drawing (n : ℕ) (raster text : List ℕ) : Type 0 where
   pub whole : length raster ≡ 4 ^ n
   pub enough : 26 * 4 ^ n ≤ length text
 
--- What is asked for the lines of a block list: it is accepted besides.
+-- What is asked for the lines of a block list: it is accepted, and has at most as many blocks.
 pub record Traceable (n : ℕ) (cs ls ks text : List ℕ) : Type 0 where
   pub low : n ≤ 6
+  pub few : length cs ≤ 4096
   pub accepted : number n cs ls ks ≡ 0
   pub enough : 26 * 4 ^ n ≤ length text
 
@@ -67,8 +68,9 @@ module _ {n : ℕ} {raster text cs ls ks cs₁ ls₁ ks₁ : List ℕ} {r : Writ
       ap (λ (w : Written). w .number) (p .answer)
       ∙ sym (raster-accepted n raster cs ls ks (omega (arith, d .low)) (d .whole) (omega arith) (omega arith) (omega arith))
 
-  pub merged-traceable : Traceable n (take (r .count) cs₁) (take (r .count) ls₁) (take (r .count) ks₁) text
-  merged-traceable = record { low = d .low; accepted = merged-accepted p merged-zero; enough = d .enough }
+  pub merged-traceable : length cs₁ ≤ 4096 → Traceable n (take (r .count) cs₁) (take (r .count) ls₁) (take (r .count) ks₁) text
+  merged-traceable h =
+      record { low = d .low; few = omega (arith, length-take (r .count) cs₁); accepted = merged-accepted p merged-zero; enough = d .enough }
 
   -- It paints the raster's image.
   merged-image : paint (blocks (take (r .count) cs₁) (take (r .count) ls₁) (take (r .count) ks₁)) ≡ inCodeOrder n raster
@@ -84,20 +86,20 @@ module _ {n : ℕ} {raster text cs ls ks cs₁ ls₁ ks₁ : List ℕ} {r : Writ
 
 -- The lists of a tracing, before (os₀, es₀, cs₀) and after, hold the outlines of an image.
 pub record Outlined (n : ℕ) (px os₀ es₀ cs₀ os es cs : List ℕ) (count : ℕ) : Type 0 where
-  pub counted : count ≡ length (outlinesOf n px)
-  pub in-owners : os ≡ over (owners (outlinesOf n px)) os₀
-  pub in-ends : es ≡ over (ends (outlinesOf n px)) es₀
-  pub in-corners : cs ≡ over (allCorners (outlinesOf n px)) cs₀
+  pub counted : count ≡ length (imageOutlines n px)
+  pub in-owners : os ≡ over (owners (imageOutlines n px)) os₀
+  pub in-ends : es ≡ over (ends (imageOutlines n px)) es₀
+  pub in-corners : cs ≡ over (allCorners (imageOutlines n px)) cs₀
 
 module _ {n : ℕ} {px os₀ es₀ cs₀ os es cs : List ℕ} {count : ℕ} (small : n ≤ 8) (o : Outlined n px os₀ es₀ cs₀ os es cs count) where
-  held : cyclesIn os es cs count ≡ outlinesOf n px
-  held = rw (o .counted, o .in-owners, o .in-ends, o .in-corners) (tracing-held (outlinesOf n px) os₀ es₀ cs₀)
+  held : cyclesIn os es cs count ≡ imageOutlines n px
+  held = rw (o .counted, o .in-owners, o .in-ends, o .in-corners) (tracing-held (imageOutlines n px) os₀ es₀ cs₀)
 
   pub drawable : {text : List ℕ} → 26 * 4 ^ n ≤ length text → Drawable os es cs count text
   unfolding over
   drawable {text} h =
       record {
-        owned = omega (arith, o .counted, ap length (o .in-owners), length-append (owners (outlinesOf n px)) (drop (length (owners (outlinesOf n px))) os₀), length-owners (outlinesOf n px));
+        owned = omega (arith, o .counted, ap length (o .in-owners), length-append (owners (imageOutlines n px)) (drop (length (owners (imageOutlines n px))) os₀), length-owners (imageOutlines n px));
         forms = rw held (outline-forms n px small);
         enough = rw held (omega (arith, outlines-room n px small));
       }
