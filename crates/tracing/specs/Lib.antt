@@ -10,3 +10,4 @@ pub mod Progress
 pub mod Unmarked
 pub mod Written
 pub mod Turn
+pub mod Rows

@@ -5,7 +5,9 @@ ghost use mathlib.Core.List.{_∷_, []};
 ghost use Rattle.location.specs.Codes.{code};
 ghost use Rattle.tracing.specs.Unmarked.{PixelOf, Tells};
 ghost use Rattle.tracing.specs.Progress.{state, Told};
+ghost use Rattle.links.specs.TopRows.{rowFrom};
 ghost use Rattle.tracing.specs.Turn.{PixelAsked};
+ghost use Rattle.tracing.specs.Rows.{RowAsked};
 
 // How many cycles and how many corners are written.
 pub(crate) struct Counts {
@@ -57,4 +59,33 @@ fn list_pixel(
     owners[cycles] = r - 1;
     ends[cycles] = (at + k) as u32;
     Counts { cycles: cycles + 1, corners: at + k }
+}
+
+// Lists the cycles that start at the `width` pixels of the row y from the column x on.
+fn list_row(
+    n: u32,
+    work: &mut [u32],
+    x: u32,
+    y: u32,
+    width: u32,
+    owners: &mut [u32],
+    ends: &mut [u32],
+    corners: &mut [u32],
+    cycles: usize,
+    at: usize,
+) -> Counts
+    requires { ⌜ RowAsked n x y width (state (now work) (now owners) (now ends) (now corners) cycles at) ⌝ }
+    ensures { λ r. ⌜ Told n (rowFrom n y x width) (state (now (work .entry)) (now (owners .entry)) (now (ends .entry)) (now (corners .entry)) cycles at) (state (now (work .exit)) (now (owners .exit)) (now (ends .exit)) (now (corners .exit)) (r .cycles) (r .corners)) ⌝ }
+{
+    let end = x + width;
+    let mut count = cycles;
+    let mut used = at;
+    let mut i = x;
+    while i < end {
+        let now = list_pixel(n, work, i, y, owners, ends, corners, count, used);
+        count = now.cycles;
+        used = now.corners;
+        i += 1;
+    }
+    Counts { cycles: count, corners: used }
 }
