@@ -7,3 +7,4 @@ pub mod Marks
 pub mod Walking
 pub mod Points
 pub mod Written
+pub mod Filling
