@@ -12,3 +12,5 @@ pub mod LinkedBlocks
 pub mod BlockNumbers
 pub mod Stretches
 pub mod Spans
+pub mod Walk
+pub mod Walked

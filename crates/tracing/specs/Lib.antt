@@ -6,5 +6,8 @@ pub mod Rule
 pub mod Marks
 pub mod Walking
 pub mod Points
+pub mod Progress
+pub mod Unmarked
 pub mod Written
 pub mod Filling
+pub mod Turn
