@@ -9,5 +9,6 @@ pub mod compare;
 pub mod lent;
 pub mod library;
 pub mod model;
+pub mod outlines;
 pub mod random;
 pub mod rasters;

@@ -1,6 +1,6 @@
 -- Cycle form, document 01's own term (cause 16): "an even number of corners from 4 to 262,144, coordinates at most 256, first
 -- step eastward, then along y and x by turns, the closing step from last corner to first along y, no step of length 0".
-use mathlib.Core.Path.{_≡_, refl, sym, ap, _∙_}
+use mathlib.Core.Path.{_≡_, refl, ap}
 use mathlib.Core.Logic.{_≢_, _↔_}
 use mathlib.Core.Bool.{Bool, true, false, not, _&&_}
 use mathlib.Core.List.{List, [], _∷_}

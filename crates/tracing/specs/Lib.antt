@@ -9,5 +9,6 @@ pub mod Points
 pub mod Progress
 pub mod Unmarked
 pub mod Written
+pub mod Filling
 pub mod Turn
 pub mod Rows

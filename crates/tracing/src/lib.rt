@@ -2,3 +2,4 @@
 mod cycle;
 mod listing;
 mod look;
+mod map;
