@@ -12,3 +12,4 @@ pub mod Written
 pub mod Filling
 pub mod Turn
 pub mod Rows
+pub mod Blocks

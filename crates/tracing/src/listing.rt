@@ -8,6 +8,7 @@ ghost use Rattle.tracing.specs.Progress.{state, Told};
 ghost use Rattle.links.specs.TopRows.{rowFrom};
 ghost use Rattle.tracing.specs.Turn.{PixelAsked};
 ghost use Rattle.tracing.specs.Rows.{RowAsked};
+ghost use Rattle.tracing.specs.Blocks.{topOf, BlockAsked};
 
 // How many cycles and how many corners are written.
 pub(crate) struct Counts {
@@ -88,4 +89,25 @@ fn list_row(
         i += 1;
     }
     Counts { cycles: count, corners: used }
+}
+
+// Lists the cycles that start in the block with this code and level: only at pixels of its top row can one start.
+fn list_block(
+    n: u32,
+    code: u32,
+    level: u8,
+    work: &mut [u32],
+    owners: &mut [u32],
+    ends: &mut [u32],
+    corners: &mut [u32],
+    cycles: usize,
+    at: usize,
+) -> Counts
+    requires { ⌜ BlockAsked n code level (state (now work) (now owners) (now ends) (now corners) cycles at) ⌝ }
+    ensures { λ r. ⌜ Told n (topOf n code level) (state (now (work .entry)) (now (owners .entry)) (now (ends .entry)) (now (corners .entry)) cycles at) (state (now (work .exit)) (now (owners .exit)) (now (ends .exit)) (now (corners .exit)) (r .cycles) (r .corners)) ⌝ }
+{
+    let x = location::column(code) as u32;
+    let y = location::row(code) as u32;
+    let width = location::side(level as u32) as u32;
+    list_row(n, work, x, y, width, owners, ends, corners, cycles, at)
 }
