@@ -13,3 +13,4 @@ pub mod Filling
 pub mod Turn
 pub mod Rows
 pub mod Blocks
+pub mod Going
