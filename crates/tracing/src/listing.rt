@@ -9,6 +9,7 @@ ghost use Rattle.links.specs.TopRows.{rowFrom};
 ghost use Rattle.tracing.specs.Turn.{PixelAsked};
 ghost use Rattle.tracing.specs.Rows.{RowAsked};
 ghost use Rattle.tracing.specs.Blocks.{topOf, BlockAsked};
+ghost use Rattle.tracing.specs.Going.{ChainAsked, chainOf};
 
 // How many cycles and how many corners are written.
 pub(crate) struct Counts {
@@ -110,4 +111,34 @@ fn list_block(
     let y = location::row(code) as u32;
     let width = location::side(level as u32) as u32;
     list_row(n, work, x, y, width, owners, ends, corners, cycles, at)
+}
+
+// Lists the cycles of one region: along its chain of blocks from the block `first` on. The link of block j stands at whole + j in the work list.
+fn list_region(
+    n: u32,
+    codes: &[u32],
+    levels: &[u8],
+    whole: usize,
+    first: usize,
+    work: &mut [u32],
+    owners: &mut [u32],
+    ends: &mut [u32],
+    corners: &mut [u32],
+    cycles: usize,
+    at: usize,
+) -> Counts
+    requires { ⌜ ChainAsked n (now codes) (now levels) whole first (state (now work) (now owners) (now ends) (now corners) cycles at) ⌝ }
+    ensures { λ r. ⌜ ((p : ChainAsked n (now (codes .entry)) (now (levels .entry)) whole first (state (now (work .entry)) (now (owners .entry)) (now (ends .entry)) (now (corners .entry)) cycles at)) → Told n (chainOf p) (state (now (work .entry)) (now (owners .entry)) (now (ends .entry)) (now (corners .entry)) cycles at) (state (now (work .exit)) (now (owners .exit)) (now (ends .exit)) (now (corners .exit)) (r .cycles) (r .corners))) ⌝ }
+{
+    let mut count = cycles;
+    let mut used = at;
+    let mut next = first + 1;
+    while next != 0 {
+        let j = next - 1;
+        let now = list_block(n, codes[j], levels[j], work, owners, ends, corners, count, used);
+        count = now.cycles;
+        used = now.corners;
+        next = work[whole + j] as usize;
+    }
+    Counts { cycles: count, corners: used }
 }
