@@ -14,3 +14,4 @@ pub mod Turn
 pub mod Rows
 pub mod Blocks
 pub mod Going
+pub mod Regions
