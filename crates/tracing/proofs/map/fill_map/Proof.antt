@@ -1,5 +1,5 @@
 use Rattle.blocks.specs.Painting.{PaintedTo, painted-none, code-inside, block-fits, painted-all, same-length as kept}
-use Rattle.tracing.specs.Filling.{values, paintable, filled-more}
+use Rattle.tracing.specs.Filling.{values, paintable, filled-more, label-small, filled-all}
 use mathlib.Core.Path.{_≡_, refl, sym, ap, _∙_}
 use mathlib.Core.Logic.{⊎-elim}
 use Prim.Native.Nat.{ℕ, _≤_, _<_, _-_, _+_}
@@ -50,7 +50,7 @@ shared-slice-read-place c = search needs
 
 -- src/map.rt:58:13
 place-requires : tie.Need-place-requires Inv-loop μ-loop
-place-requires c κs = (c .before .before .before .before .before .before .before .before .before .before .pre .small, code-inside (paintable (c .before .before .before .before .before .before .before .before .before .before .pre)) (c .before .before .before .before .loop .inv) (c .before .before .before .loop-test .taken))
+place-requires c κs = (c .before .before .before .before .before .before .before .before .before .before .pre .labelled .small, code-inside (paintable (c .before .before .before .before .before .before .before .before .before .before .pre)) (c .before .before .before .before .loop .inv) (c .before .before .before .loop-test .taken))
 
 -- src/map.rt:59:36
 mul-fill-square : tie.Need-mul-fill-square Inv-loop μ-loop
@@ -58,11 +58,11 @@ mul-fill-square c = search needs
 
 -- src/map.rt:59:36
 shared-slice-read-fill-square : tie.Need-shared-slice-read-fill-square Inv-loop μ-loop
-shared-slice-read-fill-square c = omega (arith, c .before .before .before .before .before .before .before .before .before .before .before .before .before .pre .labelled)
+shared-slice-read-fill-square c = omega (arith, c .before .before .before .before .before .before .before .before .before .before .before .before .before .pre .labels-too)
 
 -- src/map.rt:59:36
 add-fill-square : tie.Need-add-fill-square Inv-loop μ-loop
-add-fill-square c = omega (arith, c .before .before .before .before .before .before .before .before .before .before .before .before .before .pre .low (c .before .before .before .before .before .before .before .loop .i) (c .before .before .before .before .before .before .loop-test .taken))
+add-fill-square c = omega (arith, label-small (c .before .before .before .before .before .before .before .before .before .before .before .before .before .pre) (c .before .before .before .before .before .before .before .loop .i) (c .before .before .before .before .before .before .loop-test .taken))
 
 -- src/map.rt:59:9
 fill-square-requires : tie.Need-fill-square-requires Inv-loop μ-loop
@@ -86,7 +86,7 @@ same-length c = kept (paintable (c .before .before .before .before .before .befo
 
 -- src/map.rt:50:1
 returns : tie.Need-returns Inv-loop μ-loop
-returns c = painted-all (paintable (c .before .before .before .before .before .before .before .pre)) (c .before .loop .inv) (c .loop-test .left)
+returns c = filled-all (c .before .before .before .before .before .before .before .pre) (c .before .loop .inv) (c .loop-test .left)
 
 pub fill-map-spec : {M : Type 1} → statement M
 fill-map-spec =
