@@ -1,7 +1,7 @@
 -- The map filled with 1 plus the label of each block: what the loop over the blocks needs, and that the map then holds the labels.
-use mathlib.Core.Path.{_≡_, refl, sym, ap, ap₂, _∙_, subst}
+use mathlib.Core.Path.{_≡_, refl, sym, ap, _∙_, subst}
 use mathlib.Core.List.{List, [], _∷_, _++_, map}
-use Prim.Native.Nat.{ℕ, zero, suc, _+_, _-_, _/_, _%_, _^_, _≤_, _<_}
+use Prim.Native.Nat.{ℕ, zero, suc, _+_, _/_, _%_, _^_, _≤_, _<_}
 use native.Mathlib.Numerals.{add-one}
 use native.Mathlib.Omega.{arith}
 use lib.ListN.{length, getD, take, replicate, length-map, length-take}
@@ -21,7 +21,7 @@ use Rattle.blocks.specs.Filling.{RowsFilled}
 use Rattle.blocks.specs.Painting.{Paintable, PaintedTo, painted-more, painted-all}
 use Rattle.staircase.specs.FirstBlocks.{all-pixels}
 use Rattle.components.specs.Numbers.{numbers, labels}
-use Rattle.components.specs.Holders.{blockAt, holder, HoldsAt, held-colour, pixel-held}
+use Rattle.components.specs.Holders.{holder, HoldsAt, held-colour, pixel-held}
 use Rattle.links.specs.Forward.{Labelled}
 use Rattle.links.specs.Relabelled.{length-as, colour-as, cover-as, labels-room, relabelled, relabelled-paints}
 use Rattle.tracing.specs.Mapped.{numsOf, Mapped, Marked, length-nums, nums-at}
