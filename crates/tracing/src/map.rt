@@ -7,7 +7,7 @@ ghost use Rattle.quadtree.specs.Raster.{place, inRows};
 ghost use Rattle.quadtree.specs.Blocks.{blocks, paint};
 ghost use Rattle.blocks.specs.Squares.{RowsFit};
 ghost use Rattle.blocks.specs.Filling.{RunFilled, RowsFilled};
-ghost use Rattle.tracing.specs.Filling.{values, Fillable};
+ghost use Rattle.tracing.specs.Filling.{raised, Fillable};
 
 // Gives the s entries from the place `from` on the value v.
 fn fill_run(map: &mut [u32], from: usize, s: usize, v: u32)
@@ -46,10 +46,10 @@ fn place(n: u32, c: u32) -> usize
     y * location::side(n) + x
 }
 
-// Fills the map of an accepted list's blocks with 1 plus their labels.
+// Fills the map with 1 plus the label of each block.
 pub(crate) fn fill_map(n: u32, codes: &[u32], levels: &[u8], labels: &[u32], map: &mut [u32])
     requires { ⌜ Fillable n (now codes) (now levels) (now labels) (now map) ⌝ }
-    ensures { λ _. ⌜ now (map .exit) ≡ over (inRows n (paint (blocks (now (codes .entry)) (now (levels .entry)) (values (now (codes .entry)) (now (labels .entry)))))) (now (map .entry)) ⌝ }
+    ensures { λ _. ⌜ now (map .exit) ≡ over (inRows n (raised (paint (blocks (now (codes .entry)) (now (levels .entry)) (now (labels .entry)))))) (now (map .entry)) ⌝ }
 {
     let w = location::side(n);
     let mut i: usize = 0;
