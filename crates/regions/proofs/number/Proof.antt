@@ -1,4 +1,5 @@
 -- The causes are asked in the document's order; what is left is an accepted list with room for its labels and for the border.
+use lib.ListN.{length}
 use lib.Seq.{length-take-le}
 use Rattle.quadtree.specs.Number.{number}
 use Prim.Native.Nat.{_≤_, _*_, _^_}
@@ -42,10 +43,14 @@ slice-relend-prefix-label : tie.Need-slice-relend-prefix-label
 slice-relend-prefix-label c = search needs
 
 slice-aggregate-label : tie.Need-slice-aggregate-label
-slice-aggregate-label c = sym (length-take-le _ _ (c .before .before .before .if2 .left))
+slice-aggregate-label c =
+    let a = entry (c .before .before) .args in
+    omega (arith, length-take-le (length (a .codes .now)) (a .labels .now) (c .before .before .before .if2 .left))
 
 label-requires : tie.Need-label-requires
-label-requires c κs = numberable _ _ _ _ (c .before .before .before .before .before .before .before .before .before .before .before .before .args .labels .now) _ (accepted (c .before .before .before)) (c .before .before .before .before .if2 .left) (need (c .before .before .before) .1) (c .before .before .if3 .left)
+label-requires c κs =
+    let d = c .before .before .before in
+    numberable _ _ _ _ (entry d .args .labels .now) _ (accepted d) (d .before .if2 .left) (need d .1) (c .before .before .if3 .left)
 
 same-length : tie.Need-same-length
 same-length c = search needs
@@ -54,7 +59,10 @@ same-length-2 : tie.Need-same-length-2
 same-length-2 c = search needs
 
 returns-4 : tie.Need-returns-4
-returns-4 c = written _ _ _ _ _ _ (accepted (c .before .before .before .before .before .before .before .before)) (c .before .before .before .before .before .before .before .before .before .if2 .left) (omega (arith, c .before .before .before .before .before .before .before .if3 .left, need (c .before .before .before .before .before .before .before .before) .1)) (c .before .before .before .before .label .ensures)
+returns-4 c =
+    let d = c .before .before .before .before .before .before .before .before in
+    written _ _ _ _ _ _ (accepted d) (d .before .if2 .left) (omega (arith, c .before .before .before .before .before .before .before .if3 .left, need d .1))
+    (c .before .before .before .before .label .ensures)
 
 pub number-spec : {M : Type 1} → statement M
 number-spec =
