@@ -24,11 +24,18 @@ need c = need-is _ _ _ _ (accepted c) (c .pixels .ensures)
 check-requires : tie.Need-check-requires
 check-requires c κs = search needs
 
+refused-requires : tie.Need-refused-requires
+refused-requires c κs = search needs
+
 returns : tie.Need-returns
-returns c = list-refused _ _ _ _ _ _ (omega (arith, c .if1 .taken)) (c .before .check .ensures)
+returns c = rw (c .refused .ensures) (list-refused _ _ _ _ _ _ (omega (arith, c .before .if1 .taken)) (c .before .before .check .ensures))
+
+refused-requires-2 : tie.Need-refused-requires-2
+refused-requires-2 c κs = search needs
 
 returns-2 : tie.Need-returns-2
-returns-2 c = labels-short _ _ _ _ _ _ (sym (c .before .before .check .ensures) ∙ c .before .if1 .left) (c .if2 .taken)
+returns-2 c =
+    rw (c .refused2 .ensures) (labels-short _ _ _ _ _ _ (sym (c .before .before .before .check .ensures) ∙ c .before .before .if1 .left) (c .before .if2 .taken))
 
 pixels-requires : tie.Need-pixels-requires
 pixels-requires c κs = search needs
@@ -36,8 +43,13 @@ pixels-requires c κs = search needs
 mul-need : tie.Need-mul-need
 mul-need c = omega (arith, need c .0)
 
+refused-requires-3 : tie.Need-refused-requires-3
+refused-requires-3 c κs = search needs
+
 returns-3 : tie.Need-returns-3
-returns-3 c = work-short _ _ _ _ _ _ (accepted (c .before)) (omega (arith, c .if3 .taken, need (c .before) .1))
+returns-3 c =
+    let d = c .before .before in
+    rw (c .refused3 .ensures) (work-short _ _ _ _ _ _ (accepted d) (omega (arith, c .before .if3 .taken, need d .1)))
 
 slice-relend-prefix-label : tie.Need-slice-relend-prefix-label
 slice-relend-prefix-label c = search needs
@@ -69,10 +81,13 @@ number-spec =
     tie.close
     (tie.spec
     check-requires
+    refused-requires
     returns
+    refused-requires-2
     returns-2
     pixels-requires
     mul-need
+    refused-requires-3
     returns-3
     slice-relend-prefix-label
     slice-aggregate-label
