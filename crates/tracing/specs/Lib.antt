@@ -9,4 +9,5 @@ pub mod Points
 pub mod Progress
 pub mod Unmarked
 pub mod Written
+pub mod Filling
 pub mod Turn
