@@ -11,3 +11,6 @@ pub mod Unmarked
 pub mod Written
 pub mod Filling
 pub mod Turn
+pub mod Rows
+pub mod Blocks
+pub mod Going
