@@ -71,8 +71,8 @@ agreeing os es cs count k (c ∷ l) same parts =
     let part : stretchOf cs es count k ≡ c .points = ap (stretchOf cs es count) z ∙ parts 0 (omega arith) in
     let next : (i : ℕ) → suc k + i ≡ k + suc i = λ i. omega arith in
     let rest : cyclesFrom os es cs count (suc k) (length l) ≡ l =
-        agreeing os es cs count (suc k) l (λ i h. ap (λ (j : ℕ). getD os j 0) (next i) ∙ same (suc i) (omega arith))
-        (λ i h. ap (stretchOf cs es count) (next i) ∙ parts (suc i) (omega arith)) in
+    agreeing os es cs count (suc k) l (λ i h. ap (λ (j : ℕ). getD os j 0) (next i) ∙ same (suc i) (omega arith))
+    (λ i h. ap (stretchOf cs es count) (next i) ∙ parts (suc i) (omega arith)) in
     λ i. record { region = here i; points = part i } ∷ rest i
 
 begin-same : (es : List ℕ) (k : ℕ) → beginOf es k ≡ beginFrom 0 es k
@@ -88,9 +88,9 @@ module _ (l : List Cycle) (os es cs : List ℕ) where
       let s : StretchIn l k (over (ends l) es) (over (allCorners l) cs) = stretch-over l k h es cs in
       let b : beginOf (over (ends l) es) k ≡ beginFrom 0 (over (ends l) es) k = begin-same (over (ends l) es) k in
       let t : holds (length (over (allCorners l) cs)) (over (ends l) es) (length l) k ≡ true =
-          some-stretch (length (over (allCorners l) cs)) (over (ends l) es) (length l) k h
-          (omega (arith, length-append (ends l) (drop (length (ends l)) es), length-ends l)) (omega (arith, s .rises))
-          (omega (arith, s .stays, length-append (allCorners l) (drop (length (allCorners l)) cs))) in
+      some-stretch (length (over (allCorners l) cs)) (over (ends l) es) (length l) k h
+      (omega (arith, length-append (ends l) (drop (length (ends l)) es), length-ends l)) (omega (arith, s .rises))
+      (omega (arith, s .stays, length-append (allCorners l) (drop (length (allCorners l)) cs))) in
       rw (t, b) (s .holds)
 
   pub tracing-held : cyclesIn (over (owners l) os) (over (ends l) es) (over (allCorners l) cs) (length l) ≡ l

@@ -20,7 +20,7 @@ use Rattle.pgm.specs.Accepted.{Accepted}
 use Rattle.pgm.specs.Callers.{zero-accepted, refused-number, stretch-inside, stretch-length}
 use Rattle.pgm.specs.Picture.{answer, stretch}
 use Rattle.printing.specs.Outlines.{imageText, image-text-fits}
-use Rattle.printing.specs.Printed.{refusedLine, inputNumber, pictureText, textFor, wholeText, needFor, textNeed, printNumber, ifRoom, printed, Printing, Refusing, Drawing}
+use Rattle.printing.specs.Printed.{refusedLine, inputNumber, pictureText, textFor, wholeText, needFor, textNeed, printNumber, ifRoom, printed, Printing, Refusing}
 
 -- The line of a number of two digits, byte by byte.
 abbrev pub twoDigitLine : ℕ → List ℕ
@@ -75,15 +75,15 @@ module _ {number : ℕ} {text : List ℕ} (two : (10 ≤ number) × (number < 10
   pub refused-silently : length text < 11 → Refusing number text text (record { number = number; count = 0 })
   refused-silently h =
       let none : ifRoom (length text) (length (refusedLine number)) (refusedLine number) ≡ [] =
-          no-room (length text) (length (refusedLine number)) (refusedLine number) (omega (arith, line-length number (two .0) (two .1))) in
+      no-room (length text) (length (refusedLine number)) (refusedLine number) (omega (arith, line-length number (two .0) (two .1))) in
       record { number-is = refl; count-is = sym (ap length none); in-text = sym (ap (λ (l : List ℕ). over l text) none ∙ over-none text) }
 
   pub refused-in-line : 11 ≤ length text → Refusing number text (sets text 0 (twoDigitLine number)) (record { number = number; count = 11 })
   unfolding over
   refused-in-line h =
       let all : ifRoom (length text) (length (refusedLine number)) (refusedLine number) ≡ twoDigitLine number =
-          room-for-all (length text) (length (refusedLine number)) (refusedLine number) (omega (arith, line-length number (two .0) (two .1)))
-          ∙ line-of-two number (two .0) (two .1) in
+      room-for-all (length text) (length (refusedLine number)) (refusedLine number) (omega (arith, line-length number (two .0) (two .1)))
+      ∙ line-of-two number (two .0) (two .1) in
       record {
         number-is = refl;
         count-is = sym (ap length all);
@@ -116,7 +116,7 @@ module _ (bytes : List ℕ) {number : ℕ} (some : 0 < number) (e : inputNumber 
   unfolding printed
   refusal-printed {text} {text′} {w} r =
       let same : ifRoom (length text) (length (refusedLine number)) (refusedLine number) ≡ printed bytes (length text) =
-          ap₂ (λ (m : ℕ) (l : List ℕ). ifRoom (length text) m l) (sym refusal-need) (sym refusal-text) in
+      ap₂ (λ (m : ℕ) (l : List ℕ). ifRoom (length text) m l) (sym refusal-need) (sym refusal-text) in
       record {
         number-is = r .number-is ∙ sym (refusal-number (length text));
         count-is = r .count-is ∙ ap length same;

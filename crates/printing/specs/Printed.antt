@@ -2,7 +2,7 @@
 use mathlib.Core.Path.{_≡_}
 use mathlib.Core.Bool.{true, false}
 use mathlib.Core.List.{List, [], _∷_, _++_}
-use Prim.Native.Nat.{ℕ, zero, suc, _*_, _^_, _≤_}
+use Prim.Native.Nat.{ℕ, zero, suc, _*_, _^_}
 use lib.Dec.{ltb}
 use lib.ListN.{length}
 use Rattle.sequences.specs.Cases.{first, when}
@@ -77,9 +77,3 @@ pub record Refusing (number : ℕ) (text text′ : List ℕ) (answered : Written
   pub number-is : answered .number ≡ number
   pub count-is : answered .count ≡ length (ifRoom (length text) (length (refusedLine number)) (refusedLine number))
   pub in-text : text′ ≡ over (ifRoom (length text) (length (refusedLine number)) (refusedLine number)) text
-
--- What is asked for the lines of a picture: its raster, and a text list of at least the need.
-pub record Drawing (n : ℕ) (raster text : List ℕ) : Type 0 where
-  pub low : n ≤ 6
-  pub whole : length raster ≡ 4 ^ n
-  pub enough : 26 * 4 ^ n ≤ length text

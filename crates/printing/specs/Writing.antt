@@ -157,5 +157,5 @@ module _ {os es cs : List ℕ} {count : ℕ} {text₀ : List ℕ} where
   unfolding byCycles
   finish {text} {at} {k} u h =
       let all : u .done ≡ byCycles (cyclesIn os es cs count) =
-          sym (simp append-nil) ∙ ap (λ (l : List Cycle). u .done ++ byCycles l) (sym (cycles-end os es cs count k h)) ∙ u .whole in
+      sym (simp append-nil) ∙ ap (λ (l : List Cycle). u .done ++ byCycles l) (sym (cycles-end os es cs count k h)) ∙ u .whole in
       record { count-is = u .so-far ∙ ap length all; list = u .list ∙ ap (λ (l : List ℕ). over l text₀) all }

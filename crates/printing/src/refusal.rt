@@ -9,10 +9,7 @@ pub(crate) fn refuse(number: u32, text: &mut [u8]) -> Written
     ensures { λ r. ⌜ Refusing number (now (text .entry)) (now (text .exit)) r ⌝ }
 {
     if text.len() < 11 {
-        return Written {
-            number,
-            count: 0,
-        };
+        return Written { number, count: 0 };
     }
     text[0] = 114;
     text[1] = 101;
@@ -25,8 +22,5 @@ pub(crate) fn refuse(number: u32, text: &mut [u8]) -> Written
     text[8] = 48 + ((number / 10) as u8);
     text[9] = 48 + ((number % 10) as u8);
     text[10] = 10;
-    Written {
-        number,
-        count: 11,
-    }
+    Written { number, count: 11 }
 }
