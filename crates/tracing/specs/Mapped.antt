@@ -47,5 +47,5 @@ entry-of-pixel n map x y m hx hy =
 pub same-nums : (n : ℕ) (map map′ : List ℕ) → ((j : ℕ) → j < 4 ^ n → getD map′ j 0 % 131072 ≡ getD map j 0 % 131072) → numsOf n map′ ≡ numsOf n map
 same-nums n map map′ same =
     ext-getD 0 (numsOf n map′) (numsOf n map) (length-nums n map′ ∙ sym (length-nums n map)) (λ c h.
-      let k : c < 4 ^ n = omega (arith, length-nums n map′) in
-      nums-at n map′ c k ∙ ap (λ v. v - 1) (same (place n c) (place-in n c)) ∙ sym (nums-at n map c k))
+    let k : c < 4 ^ n = omega (arith, length-nums n map′) in
+    nums-at n map′ c k ∙ ap (λ v. v - 1) (same (place n c) (place-in n c)) ∙ sym (nums-at n map c k))

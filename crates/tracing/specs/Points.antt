@@ -67,7 +67,7 @@ module _ {side r s : ℕ} {map₀ out₀ : List ℕ} (ready : Ready side r s map
         stepped =
             ap₂ edge (hp ∙ sym (head-edge p d (w .low)))
             (hd ∙ ap₂ (λ m q. turn m r q d) (map-then ready (w .going) hm) (hp ∙ sym (head-edge p d (w .low)))
-                ∙ ap (turn (mapAt side map₀) r (head (edge p d))) (sym (digit-edge p d (w .low))))
+            ∙ ap (turn (mapAt side map₀) r (head (edge p d))) (sym (digit-edge p d (w .low))))
             ∙ sym (step-is (mapAt side map₀) (at-margin side map₀ (ready .square .small)) r (edge p d) (w .going .on-region))
 
         module _ {used′ : ℕ} {out′ : List ℕ} (hu : used′ ≡ cond (eqb before d) used (used + 1)) (ho : out′ ≡ cond (eqb before d) out (set out used p)) where
@@ -75,7 +75,7 @@ module _ {side r s : ℕ} {map₀ out₀ : List ℕ} (ready : Ready side r s map
           passed =
               subst (λ o. Passed side r s map₀ out₀ map′ out′ used′ o (edge p′ d′)) (digit-edge p d (w .low))
               (pass ready (w .going) (hu ∙ ap (λ o. cond (eqb before o) used (used + 1)) (sym (digit-edge p d (w .low))))
-                  (ho ∙ ap₂ (λ o q. cond (eqb before o) out (set out used q)) (sym (digit-edge p d (w .low))) (sym (tail-edge p d (w .low)))) hm stepped)
+              (ho ∙ ap₂ (λ o q. cond (eqb before o) out (set out used q)) (sym (digit-edge p d (w .low))) (sym (tail-edge p d (w .low)))) hm stepped)
 
           walking-again : d′ < 4 → edge p′ d′ ≢ s → Walking side r s map₀ out₀ map′ out′ used′ d p′ d′
           walking-again l n = record { low = l; going = again ready passed n }

@@ -77,7 +77,7 @@ module _ {n x y : ℕ} {map out : List ℕ} (h : StartsHere n map out x y) where
   held-here =
       held-edges square (edge (512 * y + x) 0) (cycle n (numsOf n map) (code n x y)) first-edge
       (λ e i. subst₂ (λ m r. Edge m r e) (sym same-map) (sym region-here)
-          (ring (regionAt n (numsOf n map)) (margin n (numsOf n map) (h .small)) (suc (getD (numsOf n map) (code n x y) 0)) (northSide n (code n x y)) (h .starts .north) .edges e i))
+      (ring (regionAt n (numsOf n map)) (margin n (numsOf n map) (h .small)) (suc (getD (numsOf n map) (code n x y) 0)) (northSide n (code n x y)) (h .starts .north) .edges e i))
 
   -- What the walk leaves is the promise.
   module _ {map′ out′ : List ℕ} {k : ℕ} (w : Walked (2 ^ n) (getD map (y * 2 ^ n + x) 0 % 131072) (edge (512 * y + x) 0) map out map′ out′ k) where
