@@ -1,5 +1,5 @@
 -- The number of a block list, cause by cause.
-use mathlib.Core.Path.{_≡_, refl, sym, ap, ap₂, _∙_}
+use mathlib.Core.Path.{_≡_, sym, ap, ap₂, _∙_}
 use mathlib.Core.Bool.{Bool, true, false, not, _&&_}
 use mathlib.Core.List.{List}
 use Prim.Native.Nat.{ℕ, _≤_, _<_}
@@ -51,15 +51,24 @@ module _ (n : ℕ) (cs ls ks : List ℕ) where
       ∙ first-none (when unlike 2) (first (cover n 0 (blocks cs ls ks)) (when (siblings n (blocks cs ls ks)) 7))
       (when-no unlike 2 (ap₂ (λ (s t : Bool). not (s && t)) (eq-eqb (length cs) (length ls) (long .levels-too)) (eq-eqb (length ls) (length ks) (long .colours-too))))
 
-  pub number-cover : n ≤ 8 → EqualLengths cs ls ks → 0 < cover n 0 (blocks cs ls ks) → cover n 0 (blocks cs ls ks) ≡ number n cs ls ks
-  number-cover h long some =
-      sym (number-alike h long ∙ first-some (cover n 0 (blocks cs ls ks)) (when (siblings n (blocks cs ls ks)) 7) some)
+  -- The pass over the blocks found the fault, of whatever colours.
+  module _ {fault : ℕ} (small : n ≤ 8) (levels-too : length cs ≡ length ls) (colours-too : length ls ≡ length ks)
+      (covering : (vs : List ℕ) → length vs ≡ length ls → fault ≡ cover n 0 (blocks cs ls vs)) where
+    long : EqualLengths cs ls ks
+    long = record { levels-too = levels-too; colours-too = colours-too }
 
-  number-last : n ≤ 8 → EqualLengths cs ls ks → cover n 0 (blocks cs ls ks) ≡ 0 → number n cs ls ks ≡ when (siblings n (blocks cs ls ks)) 7
-  number-last h long none = number-alike h long ∙ first-none (cover n 0 (blocks cs ls ks)) (when (siblings n (blocks cs ls ks)) 7) none
+    covered : fault ≡ cover n 0 (blocks cs ls ks)
+    covered = covering ks (sym colours-too)
 
-  pub number-siblings : n ≤ 8 → EqualLengths cs ls ks → cover n 0 (blocks cs ls ks) ≡ 0 → siblings n (blocks cs ls ks) ≡ true → 7 ≡ number n cs ls ks
-  number-siblings h long none some = sym (number-last h long none ∙ when-yes (siblings n (blocks cs ls ks)) 7 some)
+    pub number-cover : (fault ≡ 0 → ⊥) → fault ≡ number n cs ls ks
+    number-cover some =
+        covered ∙ sym (number-alike small long ∙ first-some (cover n 0 (blocks cs ls ks)) (when (siblings n (blocks cs ls ks)) 7) (omega (arith, covered)))
 
-  pub number-accepted : n ≤ 8 → EqualLengths cs ls ks → cover n 0 (blocks cs ls ks) ≡ 0 → siblings n (blocks cs ls ks) ≡ false → 0 ≡ number n cs ls ks
-  number-accepted h long none no-siblings = sym (number-last h long none ∙ when-no (siblings n (blocks cs ls ks)) 7 no-siblings)
+    number-last : fault ≡ 0 → number n cs ls ks ≡ when (siblings n (blocks cs ls ks)) 7
+    number-last none = number-alike small long ∙ first-none (cover n 0 (blocks cs ls ks)) (when (siblings n (blocks cs ls ks)) 7) (sym covered ∙ none)
+
+    pub number-siblings : {found : Bool} → fault ≡ 0 → found ≡ siblings n (blocks cs ls ks) → found ≡ true → 7 ≡ number n cs ls ks
+    number-siblings none e some = sym (number-last none ∙ when-yes (siblings n (blocks cs ls ks)) 7 (sym e ∙ some))
+
+    pub number-accepted : {found : Bool} → fault ≡ 0 → found ≡ siblings n (blocks cs ls ks) → found ≡ false → 0 ≡ number n cs ls ks
+    number-accepted none e unfound = sym (number-last none ∙ when-no (siblings n (blocks cs ls ks)) 7 (sym e ∙ unfound))

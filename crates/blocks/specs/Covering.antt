@@ -1,14 +1,16 @@
 -- The pass for causes 3 to 6, block by block.
-use mathlib.Core.Path.{_≡_, refl, sym, ap, ap₂, _∙_, subst}
-use mathlib.Core.Bool.{Bool, true, false, not, _&&_, _||_}
+use mathlib.Core.Path.{_≡_, subst, refl, sym, ap, _∙_}
+use mathlib.Core.Bool.{Bool, true, false, not, _||_}
 use mathlib.Core.List.{List, [], _∷_}
-use Prim.Native.Nat.{ℕ, zero, suc, _+_, _-_, _%_, _^_, _≤_, _<_}
+use Prim.Native.Nat.{ℕ, suc, _+_, _%_, _^_, _≤_, _<_}
 use native.Mathlib.Numerals.{add-one}
 use native.Mathlib.Omega.{arith}
-use lib.ListN.{length, getD, drop, drop-of-length-le, length-drop}
+use lib.ListN.{length, getD, drop, drop-of-length-le}
 use lib.Dec.{eqb, ltb}
 use borrow.Author.Tests.{lt-ltb, le-ltb, eq-eqb, ne-eqb, ltb-true, ltb-false, eqb-true, eqb-false}
 use Rattle.sequences.specs.Cases.{first, first-some, first-none}
+use Rattle.sequences.specs.Powers.{pow4-mono}
+use Rattle.location.specs.Levels.{pixelsOf, pixels-are-power}
 use Rattle.quadtree.specs.Blocks.{Block, blocks}
 use Rattle.quadtree.specs.Number.{cover}
 use Rattle.quadtree.specs.Covering.{block-fits, cover-end-short, cover-end-full}
@@ -99,27 +101,47 @@ module _ {n : ℕ} {codes levels : List ℕ} (long : length codes ≡ length lev
         ∙ cover-first n sum (blockOf codes levels colours i) (drop (suc i) (blocks codes levels colours))
 
     -- A fault ends the pass.
-    pub passed-fault : i < length codes → 0 < faultOf n sum (getD codes i 0) (getD levels i 0) → (colours : List ℕ) → length colours ≡ length levels
-        → faultOf n sum (getD codes i 0) (getD levels i 0) ≡ cover n 0 (blocks codes levels colours)
-    passed-fault h some colours k =
-        sym (at-block h colours k ∙ first-some (faultOf n sum (getD codes i 0) (getD levels i 0)) (cover n (sum + 4 ^ getD levels i 0) (drop (suc i) (blocks codes levels colours))) some)
+    pub passed-fault : {found : ℕ} → i < length codes → found ≡ faultOf n sum (getD codes i 0) (getD levels i 0) → (found ≡ 0 → ⊥)
+        → (colours : List ℕ) → length colours ≡ length levels → found ≡ cover n 0 (blocks codes levels colours)
+    passed-fault {found} h e some colours k =
+        let fault = faultOf n sum (getD codes i 0) (getD levels i 0) in
+        let rest = cover n (sum + 4 ^ getD levels i 0) (drop (suc i) (blocks codes levels colours)) in
+        e ∙ sym (at-block h colours k ∙ first-some fault rest (omega arith))
 
-    pub passed-more : i < length codes → faultOf n sum (getD codes i 0) (getD levels i 0) ≡ 0 → Passed n codes levels (sum + 4 ^ getD levels i 0) (i + 1)
-    passed-more h none = record {
-      within = omega arith;
-      most = fitting n sum (getD codes i 0) (getD levels i 0) (p .most) none .fits;
-      same = λ colours k.
-        ap (λ (j : ℕ). cover n (sum + 4 ^ getD levels i 0) (drop j (blocks codes levels colours))) (add-one i)
-        ∙ sym (at-block h colours k ∙ first-none (faultOf n sum (getD codes i 0) (getD levels i 0)) (cover n (sum + 4 ^ getD levels i 0) (drop (suc i) (blocks codes levels colours))) none);
-    }
+    -- A block without a fault: the pixels that it adds, and that they fit the image.
+    module _ {found added : ℕ} (small : n ≤ 8) (h : i < length codes) (e : found ≡ faultOf n sum (getD codes i 0) (getD levels i 0)) (none : found ≡ 0)
+        (a : added ≡ pixelsOf (getD levels i 0)) where
+      fits : Fitting n sum (getD codes i 0) (getD levels i 0)
+      fits = fitting n sum (getD codes i 0) (getD levels i 0) (p .most) (sym e ∙ none)
+
+      pixels : added ≡ 4 ^ getD levels i 0
+      pixels = a ∙ pixels-are-power (getD levels i 0) (omega (arith, fits .low))
+
+      pub passed-room : sum + added ≤ 65536
+      passed-room = omega (arith, fits .fits, pixels, pow4-mono small)
+
+      pub passed-more : Passed n codes levels (sum + added) (i + 1)
+      passed-more = subst (λ (k : ℕ). Passed n codes levels (sum + k) (i + 1)) (sym pixels) (record {
+        within = omega arith;
+        most = fits .fits;
+        same = λ colours k.
+            let fault = faultOf n sum (getD codes i 0) (getD levels i 0) in
+            let rest = cover n (sum + 4 ^ getD levels i 0) (drop (suc i) (blocks codes levels colours)) in
+            ap (λ (j : ℕ). cover n (sum + 4 ^ getD levels i 0) (drop j (blocks codes levels colours))) (add-one i)
+            ∙ sym (at-block h colours k ∙ first-none fault rest (sym e ∙ none));
+      })
 
     at-end : length codes ≤ i → (colours : List ℕ) → length colours ≡ length levels → cover n 0 (blocks codes levels colours) ≡ cover n sum []
     at-end h colours k =
         let e : EqualLengths codes levels colours = record { levels-too = long; colours-too = sym k } in
         sym (p .same colours k) ∙ ap (cover n sum) (drop-of-length-le (blocks codes levels colours) {i = i} (omega (arith, length-blocks codes levels colours e)))
 
-    pub passed-short : length codes ≤ i → sum < 4 ^ n → (colours : List ℕ) → length colours ≡ length levels → 6 ≡ cover n 0 (blocks codes levels colours)
-    passed-short h less colours k = sym (at-end h colours k ∙ cover-end-short n sum less)
+    pub passed-short : {whole : ℕ} → n ≤ 8 → length codes ≤ i → whole ≡ pixelsOf n → sum < whole
+        → (colours : List ℕ) → length colours ≡ length levels → 6 ≡ cover n 0 (blocks codes levels colours)
+    passed-short small h e less colours k =
+        sym (at-end h colours k ∙ cover-end-short n sum (omega (arith, e, pixels-are-power n (omega (arith, small)))))
 
-    pub passed-all : length codes ≤ i → 4 ^ n ≤ sum → (colours : List ℕ) → length colours ≡ length levels → 0 ≡ cover n 0 (blocks codes levels colours)
-    passed-all h full colours k = sym (at-end h colours k ∙ cover-end-full n sum full)
+    pub passed-all : {whole : ℕ} → n ≤ 8 → length codes ≤ i → whole ≡ pixelsOf n → whole ≤ sum
+        → (colours : List ℕ) → length colours ≡ length levels → 0 ≡ cover n 0 (blocks codes levels colours)
+    passed-all small h e full colours k =
+        sym (at-end h colours k ∙ cover-end-full n sum (omega (arith, e, pixels-are-power n (omega (arith, small)))))

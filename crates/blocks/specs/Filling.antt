@@ -2,7 +2,7 @@
 use mathlib.Core.Path.{_≡_, refl, sym, ap, _∙_, subst}
 use mathlib.Core.Logic.{_⊎_, inl, inr}
 use mathlib.Core.List.{List}
-use Prim.Native.Nat.{ℕ, zero, suc, _+_, _-_, _*_, _≤_, _<_}
+use Prim.Native.Nat.{ℕ, _+_, _-_, _*_, _≤_, _<_}
 use native.Mathlib.Nat.{add-mul}
 use native.Mathlib.Decide.{ℕ-discrete, decLt}
 use native.Mathlib.Omega.{arith}
@@ -23,16 +23,17 @@ pub run-one-more : {from s v : ℕ} {old new : List ℕ} (i : ℕ) → i ≡ fro
 run-one-more {from} {s} {v} {old} {new} i e room r = record {
   long = length-set new i v ∙ r .long;
   inside = λ j a b.
-    elim (ℕ-discrete j i) [
-      | yes h ↦ ap (λ (k : ℕ). getD (set new i v) k 0) h ∙ getD-set-same new i v 0 room
-      | no d ↦ getD-set-other new i j v 0 d ∙ r .inside j a (omega arith)
-    ];
+      elim (ℕ-discrete j i) [
+        | yes h ↦ ap (λ (k : ℕ). getD (set new i v) k 0) h ∙ getD-set-same new i v 0 room
+        | no d ↦ getD-set-other new i j v 0 d ∙ r .inside j a (omega arith)
+      ];
   outside = λ j o. getD-set-other new i j v 0 (apart j o) ∙ r .outside j (fewer j o);
 }
   where
     apart : (j : ℕ) → (j < from) ⊎ (from + (s + 1) ≤ j) → j ≡ i → ⊥
     apart j (inl h) k = omega arith
     apart j (inr h) k = omega arith
+
     fewer : (j : ℕ) → (j < from) ⊎ (from + (s + 1) ≤ j) → (j < from) ⊎ (from + s ≤ j)
     fewer j (inl h) = inl h
     fewer j (inr h) = inr (omega arith)
@@ -87,7 +88,7 @@ rows-one-more {w} {at} {s} {k} {v} {old} {new} {newer} from e r f = record {
   long = f .long ∙ r .long;
   inside = λ x y a b. filled x y a b (in-run from s (at + y * w + x));
   outside = λ j o.
-    f .outside j (off j o (in-run from s j)) ∙ r .outside j (λ x y a b h. o x y a (omega arith) h);
+      f .outside j (off j o (in-run from s j)) ∙ r .outside j (λ x y a b h. o x y a (omega arith) h);
 }
   where
     filled : (x y : ℕ) → x < s → y < k + 1 → ((from ≤ at + y * w + x) × (at + y * w + x < from + s)) ⊎ ((at + y * w + x < from) ⊎ (from + s ≤ at + y * w + x)) → getD newer (at + y * w + x) 0 ≡ v
@@ -101,6 +102,7 @@ rows-one-more {w} {at} {s} {k} {v} {old} {new} {newer} from e r f = record {
         here : (at + y * w + x < from) ⊎ (from + s ≤ at + y * w + x) → y ≡ k → ⊥
         here (inl g) q = omega (arith, e, ap (λ (z : ℕ). z * w) q)
         here (inr g) q = omega (arith, e, ap (λ (z : ℕ). z * w) q)
+
     off : (j : ℕ) → ((x y : ℕ) → x < s → y < k + 1 → j ≡ at + y * w + x → ⊥) → ((from ≤ j) × (j < from + s)) ⊎ ((j < from) ⊎ (from + s ≤ j)) → (j < from) ⊎ (from + s ≤ j)
     off j o (inl h) = absurd (o (j - from) k (omega (arith, h .0, h .1)) (omega arith) (omega (arith, e, h .0)))
     off j o (inr h) = h

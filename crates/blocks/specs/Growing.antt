@@ -1,14 +1,14 @@
 -- A block grows from one pixel by squares of its colour: where it stops is the largest level of one colour.
-use mathlib.Core.Path.{_≡_, refl, sym, ap, ap₂, _∙_, subst}
-use mathlib.Core.Bool.{Bool, true, false, _&&_, false≢true, true≢false}
+use mathlib.Core.Path.{_≡_, refl, sym, ap, _∙_}
+use mathlib.Core.Bool.{Bool, true, false, _&&_, true≢false}
 use mathlib.Core.List.{List}
 use Prim.Native.Nat.{ℕ, zero, suc, _+_, _-_, _*_, _^_, _≤_, _<_}
 use native.Mathlib.Numerals.{add-one}
 use native.Mathlib.Omega.{arith}
 use native.Mathlib.Decide.{decLt, ℕ-discrete}
-use lib.ListN.{length, getD}
+use lib.ListN.{getD}
 use Rattle.sequences.specs.Cases.{same-test, and-both, both-and}
-use Rattle.sequences.specs.Powers.{pow4-pos, pow4-mono}
+use Rattle.sequences.specs.Powers.{pow4-mono}
 use Rattle.quadtree.specs.Quadtree.{alike}
 use Rattle.quadtree.specs.Painting.{alike-each, each-alike}
 use Rattle.quadtree.specs.Merging.{levelUpTo, level-none, level-whole, level-part}
@@ -30,12 +30,14 @@ square-grows px v c l first =
   where
     w : ℕ
     w = 4 ^ l
+
     four : 4 ^ (l + 1) ≡ 4 * 4 ^ l
     four = ap (λ (k : ℕ). 4 ^ k) (add-one l) ∙ omega arith
+
     part : (i : ℕ) → i < 4 → alike px v c (4 ^ (l + 1)) ≡ true → alike px v (c + i * 4 ^ l) (4 ^ l) ≡ true
     part i small h = each-alike px v (c + i * 4 ^ l) (4 ^ l) (λ j k.
-      let e : c + i * 4 ^ l + j ≡ c + (i * 4 ^ l + j) = omega arith in
-      ap (λ (d : ℕ). getD px d 0) e ∙ alike-each px v c (4 ^ (l + 1)) h (i * 4 ^ l + j) (within i small j k))
+        let e : c + i * 4 ^ l + j ≡ c + (i * 4 ^ l + j) = omega arith in
+        ap (λ (d : ℕ). getD px d 0) e ∙ alike-each px v c (4 ^ (l + 1)) h (i * 4 ^ l + j) (within i small j k))
       where
         within : (i : ℕ) → i < 4 → (j : ℕ) → j < 4 ^ l → i * 4 ^ l + j < 4 ^ (l + 1)
         within zero s j k = omega (arith, four)
@@ -43,21 +45,26 @@ square-grows px v c l first =
         within (suc (suc zero)) s j k = omega (arith, four)
         within (suc (suc (suc zero))) s j k = omega (arith, four)
         within (suc (suc (suc (suc i)))) s j k = absurd (omega arith)
+
     to : alike px v c (4 ^ (l + 1)) ≡ true → othersAlike px v c l ≡ true
     to h =
         both-and (alike px v (c + 1 * 4 ^ l) (4 ^ l)) (alike px v (c + 2 * 4 ^ l) (4 ^ l) && alike px v (c + 3 * 4 ^ l) (4 ^ l)) (part 1 (omega arith) h)
         (both-and (alike px v (c + 2 * 4 ^ l) (4 ^ l)) (alike px v (c + 3 * 4 ^ l) (4 ^ l)) (part 2 (omega arith) h) (part 3 (omega arith) h))
+
     from : othersAlike px v c l ≡ true → alike px v c (4 ^ (l + 1)) ≡ true
     from h = each-alike px v c (4 ^ (l + 1)) each
       where
         one : (alike px v (c + 1 * 4 ^ l) (4 ^ l) ≡ true) × (alike px v (c + 2 * 4 ^ l) (4 ^ l) && alike px v (c + 3 * 4 ^ l) (4 ^ l) ≡ true)
         one = and-both (alike px v (c + 1 * 4 ^ l) (4 ^ l)) (alike px v (c + 2 * 4 ^ l) (4 ^ l) && alike px v (c + 3 * 4 ^ l) (4 ^ l)) h
+
         two : (alike px v (c + 2 * 4 ^ l) (4 ^ l) ≡ true) × (alike px v (c + 3 * 4 ^ l) (4 ^ l) ≡ true)
         two = and-both (alike px v (c + 2 * 4 ^ l) (4 ^ l)) (alike px v (c + 3 * 4 ^ l) (4 ^ l)) (one .1)
+
         shifted : (i d : ℕ) → alike px v (c + i * 4 ^ l) (4 ^ l) ≡ true → i * 4 ^ l ≤ d → d < i * 4 ^ l + 4 ^ l → getD px (c + d) 0 ≡ v
         shifted i d a low high =
             let e : c + d ≡ c + i * 4 ^ l + (d - i * 4 ^ l) = omega arith in
             ap (λ (z : ℕ). getD px z 0) e ∙ alike-each px v (c + i * 4 ^ l) (4 ^ l) a (d - i * 4 ^ l) (omega arith)
+
         each : (d : ℕ) → d < 4 ^ (l + 1) → getD px (c + d) 0 ≡ v
         each d k =
             elim (decLt d (4 ^ l)) [

@@ -1,12 +1,12 @@
 -- The loop that merges a raster: what it needs, what it leaves, what holds at its head.
-use mathlib.Core.Path.{_≡_, refl, sym, ap, ap₂, _∙_, subst}
+use mathlib.Core.Path.{_≡_, refl, sym, ap, ap₂, _∙_}
 use mathlib.Core.List.{List, [], _∷_, _++_, map, append-assoc, append-nil}
-use Prim.Native.Nat.{ℕ, zero, suc, _+_, _-_, _*_, _%_, _^_, _≤_, _<_}
+use Prim.Native.Nat.{ℕ, _+_, _^_, _≤_, _<_}
 use native.Mathlib.Omega.{arith}
 use lib.ListN.{length, getD, set, length-append, length-set, length-map}
 use Rattle.sequences.specs.Over.{over, over-none, over-push}
 use Rattle.sequences.specs.Powers.{pow4-pos, pow4-mono}
-use Rattle.location.specs.Levels.{topLevel}
+use Rattle.location.specs.Levels.{topLevel, pixelsOf, pixels-are-power}
 use Rattle.location.specs.TopLevels.{top-level-fits}
 use Rattle.quadtree.specs.Blocks.{Block, pixels}
 use Rattle.quadtree.specs.Fields.{codes, levels, colours}
@@ -112,6 +112,10 @@ module _ {n : ℕ} {raster codes₀ levels₀ colours₀ : List ℕ} (room : Roo
             in-colours = omega (arith, in-image, m .few, room .for-colours, m .colours-long);
           }
 
+      -- The pixels of the next block.
+      pub next-pixels : {level added : ℕ} → level ≡ blockAt n (inCodeOrder n raster) c .level → added ≡ pixelsOf level → added ≡ 4 ^ level
+      next-pixels {level} {added} e a = a ∙ pixels-are-power level (omega (arith, turn e .low))
+
       pub merging-more : {level colour : ℕ} → level ≡ blockAt n (inCodeOrder n raster) c .level → colour ≡ getD raster (place n c) 0
           → Merging n raster codes₀ levels₀ colours₀ (set codes₁ count c) (set levels₁ count level) (set colours₁ count colour) (count + 1) (c + 4 ^ level)
       unfolding blockAt
@@ -133,16 +137,16 @@ module _ {n : ℕ} {raster codes₀ levels₀ colours₀ : List ℕ} (room : Roo
             in-levels = push-field (λ (a : Block). a .level) (m .done) b levels₁ levels₀ level count (m .in-levels) el (m .counted) (omega (arith, room .for-levels));
             in-colours = push-field (λ (a : Block). a .colour) (m .done) b colours₁ colours₀ colour count (m .in-colours) same (m .counted) (omega (arith, room .for-colours));
             total =
-              ap (λ (k : ℕ). (m .done ++ (b ∷ [])) ++ mergedFrom n px (c + 4 ^ k)) el
-              ∙ append-assoc (m .done) (b ∷ []) (mergedFrom n px (c + 4 ^ b .level))
-              ∙ ap (λ (l : List Block). m .done ++ l) (sym (merged-more n px c in-image)) ∙ m .total;
+                ap (λ (k : ℕ). (m .done ++ (b ∷ [])) ++ mergedFrom n px (c + 4 ^ k)) el
+                ∙ append-assoc (m .done) (b ∷ []) (mergedFrom n px (c + 4 ^ b .level))
+                ∙ ap (λ (l : List Block). m .done ++ l) (sym (merged-more n px c in-image)) ∙ m .total;
           }
 
     pub merged : length raster ≤ c → Merged n raster codes₀ levels₀ colours₀ codes₁ levels₁ colours₁ count
     merged past =
         let px = inCodeOrder n raster in
         let all : m .done ≡ quadtree n px =
-          sym (append-nil (m .done)) ∙ ap (λ (l : List Block). m .done ++ l) (sym (merged-end n px c (omega (arith, room .whole)))) ∙ m .total ∙ merged-is-quadtree n px (room .small) in
+        sym (append-nil (m .done)) ∙ ap (λ (l : List Block). m .done ++ l) (sym (merged-end n px c (omega (arith, room .whole)))) ∙ m .total ∙ merged-is-quadtree n px (room .small) in
         record {
           number = m .counted ∙ ap length all;
           in-codes = m .in-codes ∙ ap (λ (l : List Block). over (codes l) codes₀) all;

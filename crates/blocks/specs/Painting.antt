@@ -1,9 +1,9 @@
 -- The loop that paints a raster block by block: what holds at its head.
-use mathlib.Core.Path.{_≡_, refl, sym, ap, ap₂, _∙_, subst}
+use mathlib.Core.Path.{_≡_, refl, sym, ap, ap₂, _∙_}
 use mathlib.Core.List.{List, [], _∷_, _++_, append-assoc}
-use Prim.Native.Nat.{ℕ, zero, suc, _+_, _-_, _*_, _/_, _%_, _^_, _≤_, _<_}
+use Prim.Native.Nat.{ℕ, _+_, _-_, _*_, _/_, _%_, _^_, _≤_, _<_}
 use native.Mathlib.Nat.{add-mul, div-add-mod'}
-use native.Mathlib.Decide.{decLt, decLe}
+use native.Mathlib.Decide.{decLt}
 use native.Mathlib.Omega.{arith}
 use lib.ListN.{length, getD, drop, replicate, length-append, length-replicate, getD-replicate, drop-of-length-le, List·getD-append}
 use lib.Seq.{getD-append-add, ext-getD}
@@ -15,9 +15,9 @@ use Rattle.location.specs.Interleaving.{code-below}
 use Rattle.location.specs.Levels.{sideOf, side-is-power}
 use Rattle.location.specs.Squares.{square-in-image, block-is-square}
 use Rattle.quadtree.specs.Blocks.{Block, blocks, paint}
-use Rattle.quadtree.specs.Number.{cover, number}
+use Rattle.quadtree.specs.Number.{cover}
 use Rattle.quadtree.specs.Raster.{place, inRows}
-use Rattle.quadtree.specs.Orders.{column-in, row-in, in-rows-at, length-in-rows, place-in}
+use Rattle.quadtree.specs.Orders.{column-in, row-in, in-rows-at, length-in-rows}
 use Rattle.quadtree.specs.Covering.{NextBlock, cover-zero, cover-zero-end}
 use Rattle.blocks.specs.Lists.{EqualLengths, blockOf, length-blocks, rest-after}
 use Rattle.blocks.specs.Squares.{RowsFit, square-fits}
@@ -117,18 +117,21 @@ module _ {n : ℕ} {bs : List Block} {old : List ℕ} where
       rest = ap (λ (s : ℕ). cover n s (drop (i + 1) bs)) size ∙ step .rest;
       most = omega (arith, size, step .fits);
       whole =
-        p .whole ∙ ap (λ (l : List Block). p .front ++ paint l) here
-        ∙ sym (append-assoc (p .front) (replicate (4 ^ b .level) (b .colour)) (paint (drop (i + 1) bs)));
+          p .whole ∙ ap (λ (l : List Block). p .front ++ paint l) here
+          ∙ sym (append-assoc (p .front) (replicate (4 ^ b .level) (b .colour)) (paint (drop (i + 1) bs)));
       painted = λ j a h. by j a (omega (arith, size)) (decLt (codeAt n j) (length (p .front)));
       beyond = λ j a. filled .outside j (λ x y k l e. omega (arith, e, space .fits y l, enough, p .long, a, far x y k l)) ∙ p .beyond j a;
     }
       where
         space : Placeable n b (length new)
         space = placeable enough
+
         size : length (p .front ++ replicate (4 ^ b .level) (b .colour)) ≡ length (p .front) + 4 ^ b .level
         size = omega (arith, length-append (p .front) (replicate (4 ^ b .level) (b .colour)), length-replicate (4 ^ b .level) (b .colour))
+
         far : (x y : ℕ) → x < 2 ^ b .level → y < 2 ^ b .level → place n (b .code) + y * 2 ^ n + x < 4 ^ n
         far x y k l = omega (arith, square-fits n (b .level) (b .code) (step .low) (space .room) (step .multiple) y l)
+
         by : (j : ℕ) → j < 4 ^ n → codeAt n j < length (p .front) + 4 ^ b .level → Dec (codeAt n j < length (p .front)) → getD newer j 0 ≡ getD (paint bs) (codeAt n j) 0
         by j a h (yes t) =
             filled .outside j (λ x y k l e. omega (arith, of-square n (b .level) (b .code) (step .low) (space .room) (step .multiple) j a x y k l e, step .here))
@@ -144,14 +147,14 @@ module _ {n : ℕ} {bs : List Block} {old : List ℕ} where
   painting-all {new} {i} p past enough =
       let size : length (inRows n (paint bs)) ≡ 4 ^ n = length-in-rows n (paint bs) in
       let full : length (p .front) ≡ 4 ^ n =
-        cover-zero-end n (length (p .front)) (p .most) (sym (ap (cover n (length (p .front))) (drop-of-length-le bs {i = i} past)) ∙ p .rest) in
+      cover-zero-end n (length (p .front)) (p .most) (sym (ap (cover n (length (p .front))) (drop-of-length-le bs {i = i} past)) ∙ p .rest) in
       ext-getD 0 new (over (inRows n (paint bs)) old) (p .long ∙ sym (length-over (inRows n (paint bs)) old (omega arith))) (λ j h.
-        elim (decLt j (4 ^ n)) [
-          | yes a ↦
-              p .painted j a (omega (arith, full, below j))
-              ∙ sym (over-inside (inRows n (paint bs)) old j (omega arith) ∙ in-rows-at n (paint bs) j a)
-          | no a ↦ p .beyond j (omega arith) ∙ sym (over-beyond (inRows n (paint bs)) old j (omega arith))
-        ])
+      elim (decLt j (4 ^ n)) [
+        | yes a ↦
+            p .painted j a (omega (arith, full, below j))
+            ∙ sym (over-inside (inRows n (paint bs)) old j (omega arith) ∙ in-rows-at n (paint bs) j a)
+        | no a ↦ p .beyond j (omega arith) ∙ sym (over-beyond (inRows n (paint bs)) old j (omega arith))
+      ])
     where
       below : (j : ℕ) → codeAt n j < 4 ^ n
       below j = code-below n (j % 2 ^ n) (j / 2 ^ n)
@@ -204,8 +207,8 @@ module _ {n : ℕ} {codes levels colours old : List ℕ} (ok : Paintable n codes
         painted-more {newer} f = record {
           wide = p .wide;
           painting =
-            painting-more (p .painting) (blockOf codes levels colours i) here
-            (omega (arith, length-blocks codes levels colours (ok .long))) (ok .enough) (rw (p .wide, ea, side) at f);
+              painting-more (p .painting) (blockOf codes levels colours i) here
+              (omega (arith, length-blocks codes levels colours (ok .long))) (ok .enough) (rw (p .wide, ea, side) at f);
         }
 
     pub painted-all : length codes ≤ i → new ≡ over (inRows n (paint (blocks codes levels colours))) old

@@ -1,5 +1,5 @@
 -- The place of a code's pixel, from the coordinates that the location crate gives.
-use mathlib.Core.Path.{_≡_, refl, sym, ap, ap₂, _∙_}
+use mathlib.Core.Path.{_≡_, ap₂, _∙_}
 use Prim.Native.Nat.{ℕ, _+_, _*_, _^_, _≤_, _<_}
 use native.Mathlib.Omega.{arith}
 use Rattle.sequences.specs.Powers.{pow4-mono}

@@ -1,14 +1,13 @@
 -- The four quadrants of a square one level up: where they lie in the raster, and when they have one colour.
-use mathlib.Core.Path.{_≡_, refl, sym, ap, ap₂, _∙_, subst}
-use mathlib.Core.Bool.{Bool, true, false, _&&_}
+use mathlib.Core.Path.{_≡_, sym, ap, ap₂, _∙_, subst}
+use mathlib.Core.Bool.{true, _&&_}
 use mathlib.Core.List.{List}
-use Prim.Native.Nat.{ℕ, zero, suc, _+_, _-_, _*_, _/_, _%_, _^_, _≤_, _<_, _∣_}
+use Prim.Native.Nat.{ℕ, zero, suc, _+_, _*_, _/_, _%_, _^_, _≤_, _<_}
 use native.Mathlib.Nat.{add-mul, dvd-add, dvd-mul-left, dvd-trans, dvd-of-mod-eq-zero, mod-eq-zero-of-dvd}
 use native.Mathlib.Numerals.{add-one}
 use native.Mathlib.Omega.{arith}
-use lib.ListN.{length, getD}
-use Rattle.sequences.specs.Powers.{pow4-divides, pow4-pos, pow2-mono, pow4-mono, square-of-side}
-use Rattle.location.specs.Codes.{column, row}
+use Rattle.sequences.specs.Powers.{pow4-divides, pow4-pos, pow2-mono, pow4-mono}
+use Rattle.location.specs.Codes.{row}
 use Rattle.location.specs.Squares.{square-in-image, quadrant-column, quadrant-row}
 use Rattle.quadtree.specs.Quadtree.{alike}
 use Rattle.quadtree.specs.Raster.{place, inCodeOrder}

@@ -1,22 +1,24 @@
 -- What the functions between rasters and block lists promise: the answer, and the later content of each list.
-use mathlib.Core.Path.{_≡_, refl, sym, ap, ap₂, _∙_, subst}
-use mathlib.Core.Bool.{Bool, true, false, not, _||_}
+use mathlib.Core.Path.{_≡_, sym, ap, ap₂, _∙_}
+use mathlib.Core.Bool.{Bool, true, not, _||_}
 use mathlib.Core.List.{List, []}
-use Prim.Native.Nat.{ℕ, zero, suc, _^_, _≤_, _<_}
+use Prim.Native.Nat.{ℕ, _^_, _≤_, _<_}
 use native.Mathlib.Omega.{arith}
 use lib.ListN.{length}
 use lib.Dec.{eqb, ltb}
 use borrow.Author.Tests.{lt-ltb, le-ltb, eq-eqb, ne-eqb, ltb-false, eqb-true, not-false}
 use Rattle.sequences.specs.Cases.{first, when, ifAccepted, first-some, first-none, first-zero, when-zero, when-yes, when-no, or-right, written-accepted, written-refused}
 use Rattle.sequences.specs.Over.{over, over-none}
+use Rattle.sequences.specs.Powers.{pow4-mono}
+use Rattle.location.specs.Levels.{pixelsOf, pixels-are-power}
 use Rattle.quadtree.specs.Blocks.{Block, blocks, paint}
 use Rattle.quadtree.specs.Fields.{codes, levels, colours}
 use Rattle.quadtree.specs.Quadtree.{quadtree}
 use Rattle.quadtree.specs.Number.{number, numberWith}
 use Rattle.quadtree.specs.Raster.{inCodeOrder, inRows}
 use Rattle.quadtree.specs.Orders.{length-in-rows}
-use Rattle.quadtree.specs.Accepted.{number-zero}
-use Rattle.blocks.specs.Merging.{Merged}
+use Rattle.quadtree.specs.Accepted.{Passes, number-zero}
+use Rattle.blocks.specs.Merging.{Room, Merged}
 use Rattle.blocks.specs.Painting.{Paintable}
 use Rattle.blocks.specs.declared.Written.{Written}
 
@@ -138,6 +140,36 @@ module _ (n : ℕ) (raster cs ls ks : List ℕ) where
         in-colours = m .in-colours ∙ ap (λ (bs : List Block). over (colours bs) ks) (sym all);
       }
 
+pixels : {n whole : ℕ} → n ≤ 8 → whole ≡ pixelsOf n → whole ≡ 4 ^ n
+pixels {n} small e = e ∙ pixels-are-power n (omega (arith, small))
+
+-- The answers of raster to blocks, in the order of the tests; `whole` is the number of pixels.
+module _ {n : ℕ} {raster cs ls ks : List ℕ} where
+  pub too-large : 8 < n → FromRaster n raster cs ls ks cs ls ks (record { number = 1; count = 0 })
+  too-large h = raster-refused n raster cs ls ks (omega arith) (raster-large n raster cs ls ks h)
+
+  module _ {whole : ℕ} (small : n ≤ 8) (e : whole ≡ pixelsOf n) where
+    pub wrong-length : (length raster ≡ whole → ⊥) → FromRaster n raster cs ls ks cs ls ks (record { number = 9; count = 0 })
+    wrong-length h = raster-refused n raster cs ls ks (omega arith) (raster-unlike n raster cs ls ks small (λ k. h (k ∙ sym (pixels small e))))
+
+    module _ (same : length raster ≡ whole) where
+      pub no-room-for-codes : length cs < whole → FromRaster n raster cs ls ks cs ls ks (record { number = 8; count = 0 })
+      no-room-for-codes h = raster-refused n raster cs ls ks (omega arith) (codes-short n raster cs ls ks small (same ∙ pixels small e) (omega (arith, pixels small e)))
+
+      pub no-room-for-levels : length ls < whole → FromRaster n raster cs ls ks cs ls ks (record { number = 8; count = 0 })
+      no-room-for-levels h = raster-refused n raster cs ls ks (omega arith) (levels-short n raster cs ls ks small (same ∙ pixels small e) (omega (arith, pixels small e)))
+
+      pub no-room-for-colours : length ks < whole → FromRaster n raster cs ls ks cs ls ks (record { number = 8; count = 0 })
+      no-room-for-colours h = raster-refused n raster cs ls ks (omega arith) (colours-short n raster cs ls ks small (same ∙ pixels small e) (omega (arith, pixels small e)))
+
+      module _ (a : whole ≤ length cs) (b : whole ≤ length ls) (c : whole ≤ length ks) where
+        pub room : Room n raster cs ls ks
+        room = record { small = small; whole = same ∙ pixels small e; for-codes = omega (arith, pixels small e); for-levels = omega (arith, pixels small e); for-colours = omega (arith, pixels small e) }
+
+        pub all-merged : {cs₁ ls₁ ks₁ : List ℕ} {count : ℕ} → Merged n raster cs ls ks cs₁ ls₁ ks₁ count
+            → FromRaster n raster cs ls ks cs₁ ls₁ ks₁ (record { number = 0; count = count })
+        all-merged m = raster-merged n raster cs ls ks (raster-accepted n raster cs ls ks small (same ∙ pixels small e) (room .for-codes) (room .for-levels) (room .for-colours)) m
+
 -- The number of a block list and a raster to paint, cause by cause.
 module _ (n : ℕ) (cs ls ks raster : List ℕ) where
   -- A refusal returns its number and leaves the raster.
@@ -147,29 +179,48 @@ module _ (n : ℕ) (cs ls ks raster : List ℕ) where
       let none : rasterWritten n cs ls ks raster ≡ [] = written-refused (paintNumber n cs ls ks raster) (inRows n (paint (blocks cs ls ks))) (omega arith) in
       record { answer = λ i. record { number = e i; count = length (sym none i) }; in-raster = sym (ap (λ (l : List ℕ). over l raster) none ∙ over-none raster) }
 
-  pub list-refused : {k : ℕ} → 0 < k → k ≡ number n cs ls ks → ToRaster n cs ls ks raster raster (record { number = k; count = 0 })
+  pub list-refused : {fault : ℕ} → fault ≡ number n cs ls ks → (fault ≡ 0 → ⊥) → ToRaster n cs ls ks raster raster (record { number = fault; count = 0 })
   unfolding paintNumber numberWith
-  list-refused {k} p e = paint-refused p (e ∙ sym (first-some (number n cs ls ks) (when (ltb (length raster) (4 ^ n)) 8) (omega arith)))
+  list-refused {fault} e some =
+      paint-refused (omega arith) (e ∙ sym (first-some (number n cs ls ks) (when (ltb (length raster) (4 ^ n)) 8) (omega (arith, e))))
 
-  pub raster-short : number n cs ls ks ≡ 0 → length raster < 4 ^ n → ToRaster n cs ls ks raster raster (record { number = 8; count = 0 })
-  unfolding paintNumber numberWith
-  raster-short e h =
-      paint-refused (omega arith)
-      (sym (first-none (number n cs ls ks) (when (ltb (length raster) (4 ^ n)) 8) e ∙ when-yes (ltb (length raster) (4 ^ n)) 8 (lt-ltb (length raster) (4 ^ n) h)))
+  -- The list is accepted; `whole` is the number of pixels.
+  module _ {fault whole : ℕ} (e : fault ≡ number n cs ls ks) (none : fault ≡ 0) (w : whole ≡ pixelsOf n) where
+    ok : Passes n cs ls ks
+    ok = number-zero n cs ls ks (sym e ∙ none)
 
-  pub raster-painted : {raster₁ : List ℕ} {count : ℕ} → number n cs ls ks ≡ 0 → 4 ^ n ≤ length raster → count ≡ 4 ^ n
-      → raster₁ ≡ over (inRows n (paint (blocks cs ls ks))) raster → ToRaster n cs ls ks raster raster₁ (record { number = 0; count = count })
-  unfolding paintNumber numberWith rasterWritten
-  raster-painted {raster₁} {count} e h c p =
-      let zero-number : paintNumber n cs ls ks raster ≡ 0 =
-        first-none (number n cs ls ks) (when (ltb (length raster) (4 ^ n)) 8) e ∙ when-no (ltb (length raster) (4 ^ n)) 8 (le-ltb (length raster) (4 ^ n) h) in
-      let all : rasterWritten n cs ls ks raster ≡ inRows n (paint (blocks cs ls ks)) = written-accepted (paintNumber n cs ls ks raster) (inRows n (paint (blocks cs ls ks))) zero-number in
-      record {
-        answer = λ i. record { number = sym zero-number i; count = (c ∙ sym (length-in-rows n (paint (blocks cs ls ks))) ∙ ap length (sym all)) i };
-        in-raster = p ∙ ap (λ (l : List ℕ). over l raster) (sym all);
+    size : whole ≡ 4 ^ n
+    size = w ∙ pixels-are-power n (omega (arith, ok .small))
+
+    pub raster-short : length raster < whole → ToRaster n cs ls ks raster raster (record { number = 8; count = 0 })
+    unfolding paintNumber numberWith
+    raster-short h =
+        paint-refused (omega arith)
+        (sym (first-none (number n cs ls ks) (when (ltb (length raster) (4 ^ n)) 8) (sym e ∙ none) ∙ when-yes (ltb (length raster) (4 ^ n)) 8 (lt-ltb (length raster) (4 ^ n) (omega (arith, size)))))
+
+    module _ (enough : whole ≤ length raster) where
+      pub paintable : Paintable n cs ls ks raster
+      paintable = record {
+        small = ok .small;
+        long = record { levels-too = ok .equal-levels; colours-too = ok .equal-colours };
+        covered = ok .covering;
+        enough = omega (arith, size);
       }
 
-  pub paintable : number n cs ls ks ≡ 0 → 4 ^ n ≤ length raster → Paintable n cs ls ks raster
-  paintable e h =
-      let ok = number-zero n cs ls ks e in
-      record { small = ok .small; long = record { levels-too = ok .equal-levels; colours-too = ok .equal-colours }; covered = ok .covering; enough = h }
+      pub raster-painted : {raster₁ : List ℕ} → raster₁ ≡ over (inRows n (paint (blocks cs ls ks))) raster
+          → ToRaster n cs ls ks raster raster₁ (record { number = 0; count = whole })
+      unfolding paintNumber numberWith rasterWritten
+      raster-painted {raster₁} p =
+          let zero-number : paintNumber n cs ls ks raster ≡ 0 =
+          first-none (number n cs ls ks) (when (ltb (length raster) (4 ^ n)) 8) (sym e ∙ none) ∙ when-no (ltb (length raster) (4 ^ n)) 8 (le-ltb (length raster) (4 ^ n) (omega (arith, size))) in
+          let all : rasterWritten n cs ls ks raster ≡ inRows n (paint (blocks cs ls ks)) = written-accepted (paintNumber n cs ls ks raster) (inRows n (paint (blocks cs ls ks))) zero-number in
+          record {
+            answer = λ i. record { number = sym zero-number i; count = (size ∙ sym (length-in-rows n (paint (blocks cs ls ks))) ∙ ap length (sym all)) i };
+            in-raster = p ∙ ap (λ (l : List ℕ). over l raster) (sym all);
+          }
+
+-- The number of pixels of an accepted list's image.
+pub whole-fits : (n : ℕ) (cs ls ks : List ℕ) {fault whole : ℕ} → fault ≡ number n cs ls ks → fault ≡ 0 → whole ≡ pixelsOf n → whole ≤ 65536
+whole-fits n cs ls ks e none w =
+    let small = number-zero n cs ls ks (sym e ∙ none) .small in
+    omega (arith, pixels small w, pow4-mono small)

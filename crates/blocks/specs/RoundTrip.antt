@@ -1,8 +1,7 @@
 -- Rasters and block lists there and back, where a caller stands: from the functions' promises, about the lists at exit.
-use mathlib.Core.Path.{_≡_, refl, sym, ap, ap₂, _∙_, subst}
+use mathlib.Core.Path.{_≡_, sym, ap, ap₂, _∙_}
 use mathlib.Core.List.{List}
-use Prim.Native.Nat.{ℕ, _^_, _≤_, _<_}
-use native.Mathlib.Omega.{arith}
+use Prim.Native.Nat.{ℕ, _^_, _≤_}
 use lib.ListN.{length, take, length-map}
 use lib.Dec.{ltb}
 use borrow.Author.Tests.{le-ltb}
@@ -81,7 +80,7 @@ module _ {n : ℕ} {raster cs ls ks cs₁ ls₁ ks₁ : List ℕ} {r : Written} 
         done .0,
         done .1,
         done .2 ∙ ap (λ (l : List Block). inRows n (paint l)) bs
-        ∙ ap (inRows n) (paint-quadtree n px (length-in-code-order n raster)) ∙ rows-after-code-order n raster (small-whole .1),
+            ∙ ap (inRows n) (paint-quadtree n px (length-in-code-order n raster)) ∙ rows-after-code-order n raster (small-whole .1),
       )
 
 -- Raster to blocks after blocks to raster gives the same list, for every accepted list.

@@ -1,11 +1,10 @@
 -- The pass for cause 7: four siblings of one colour.
-use mathlib.Core.Path.{_≡_, refl, sym, ap, ap₂, _∙_, subst}
-use mathlib.Core.Bool.{Bool, true, false, not, _&&_, _||_}
+use mathlib.Core.Path.{_≡_, refl, sym, ap, _∙_}
+use mathlib.Core.Bool.{Bool, true, false, _&&_}
 use mathlib.Core.List.{List, [], _∷_}
-use Prim.Native.Nat.{ℕ, zero, suc, _+_, _-_, _%_, _^_, _≤_, _<_}
-use native.Mathlib.Numerals.{add-one}
+use Prim.Native.Nat.{ℕ, suc, _+_, _%_, _^_, _≤_, _<_}
 use native.Mathlib.Omega.{arith}
-use lib.ListN.{length, getD, drop, drop-of-length-le, length-drop}
+use lib.ListN.{length, getD, drop, length-drop}
 use lib.Dec.{eqb, ltb}
 use borrow.Author.Tests.{lt-ltb, le-ltb, eq-eqb, ne-eqb}
 use Rattle.sequences.specs.Cases.{and-stop, and-go-on, and-fail}
@@ -129,8 +128,8 @@ module _ {n : ℕ} {codes levels colours : List ℕ} where
       searched-more m = record {
         within = omega arith;
         same =
-          ap (siblings n) (three-after codes levels colours long i h)
-          ∙ sym (here ∙ siblings-later n (blockOf codes levels colours i) (blockOf codes levels colours (i + 1)) (blockOf codes levels colours (i + 2)) (blockOf codes levels colours (i + 3)) (drop (i + 4) (blocks codes levels colours)) m);
+            ap (siblings n) (three-after codes levels colours long i h)
+            ∙ sym (here ∙ siblings-later n (blockOf codes levels colours i) (blockOf codes levels colours (i + 1)) (blockOf codes levels colours (i + 2)) (blockOf codes levels colours (i + 3)) (drop (i + 4) (blocks codes levels colours)) m);
       }
 
     pub searched-all : length codes ≤ i + 3 → false ≡ siblings n (blocks codes levels colours)

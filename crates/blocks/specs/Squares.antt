@@ -1,6 +1,5 @@
 -- Squares of a raster that have one colour, row by row and by codes.
-use mathlib.Core.Path.{_≡_, refl, sym, ap, ap₂, _∙_, subst}
-use mathlib.Core.Logic.{_↔_}
+use mathlib.Core.Path.{_≡_, refl, sym, ap, _∙_, subst}
 use mathlib.Core.Bool.{Bool, true, false, false≢true}
 use mathlib.Core.List.{List}
 use Prim.Native.Nat.{ℕ, zero, suc, _+_, _-_, _*_, _%_, _^_, _≤_, _<_}
@@ -75,11 +74,11 @@ each-rows : (raster : List ℕ) (v w at s k : ℕ) → ((x y : ℕ) → x < s �
 each-rows raster v w at s zero h = rows-alike-none raster v w at s
 each-rows raster v w at s (suc k) h =
     rows-alike-row raster v w at s k (each-alike raster v at s (λ i l.
-      let z : at + i ≡ at + 0 * w + i = omega arith in
-      ap (λ (j : ℕ). getD raster j 0) z ∙ h i 0 l (omega arith)))
+    let z : at + i ≡ at + 0 * w + i = omega arith in
+    ap (λ (j : ℕ). getD raster j 0) z ∙ h i 0 l (omega arith)))
     ∙ each-rows raster v w (at + w) s k (λ x y a b.
-      let z : at + w + y * w + x ≡ at + suc y * w + x = omega (arith, add-mul y 1 w) in
-      ap (λ (j : ℕ). getD raster j 0) z ∙ h x (suc y) a (omega arith))
+    let z : at + w + y * w + x ≡ at + suc y * w + x = omega (arith, add-mul y 1 w) in
+    ap (λ (j : ℕ). getD raster j 0) z ∙ h x (suc y) a (omega arith))
 
 -- The square of a block has one colour exactly where the block's codes have.
 module _ (n l c : ℕ) (level : l ≤ n) (inside : c < 4 ^ n) (multiple : c % 4 ^ l ≡ 0) (raster : List ℕ) (v : ℕ) where
@@ -104,7 +103,7 @@ module _ (n l c : ℕ) (level : l ≤ n) (inside : c < 4 ^ n) (multiple : c % 4 
       let x′ : ℕ = x - column n c in
       let ey : y ≡ row n c + y′ = omega arith in
       let z : y * 2 ^ n + x ≡ row n c * 2 ^ n + column n c + y′ * 2 ^ n + x′ =
-        omega (arith, ap (λ (t : ℕ). t * 2 ^ n) ey, add-mul (row n c) y′ (2 ^ n)) in
+      omega (arith, ap (λ (t : ℕ). t * 2 ^ n) ey, add-mul (row n c) y′ (2 ^ n)) in
       ap (λ (i : ℕ). getD raster i 0) z ∙ h x′ y′ (omega arith) (omega arith)
 
   from-codes : ((d : ℕ) → c ≤ d → d < c + 4 ^ l → Painted (column n d) (row n d)) → (i : ℕ) → i < 4 ^ l → getD px (c + i) 0 ≡ v

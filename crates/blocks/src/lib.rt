@@ -38,27 +38,51 @@ pub fn check(n: u32, codes: &[u32], levels: &[u8], colours: &[u8]) -> u32
 }
 
 // A raster, row by row, to the block list of its quadtree.
-pub fn from_raster(n: u32, raster: &[u8], codes: &mut [u32], levels: &mut [u8], colours: &mut [u8]) -> Written
+pub fn from_raster(
+    n: u32,
+    raster: &[u8],
+    codes: &mut [u32],
+    levels: &mut [u8],
+    colours: &mut [u8],
+) -> Written
     ensures { λ r. ⌜ FromRaster n (now (raster .entry)) (now (codes .entry)) (now (levels .entry)) (now (colours .entry)) (now (codes .exit)) (now (levels .exit)) (now (colours .exit)) r ⌝ }
 {
     if 8 < n {
-        return Written { number: 1, count: 0 };
+        return Written {
+            number: 1,
+            count: 0,
+        };
     }
     let whole = location::pixels(n);
     if raster.len() != whole {
-        return Written { number: 9, count: 0 };
+        return Written {
+            number: 9,
+            count: 0,
+        };
     }
     if codes.len() < whole {
-        return Written { number: 8, count: 0 };
+        return Written {
+            number: 8,
+            count: 0,
+        };
     }
     if levels.len() < whole {
-        return Written { number: 8, count: 0 };
+        return Written {
+            number: 8,
+            count: 0,
+        };
     }
     if colours.len() < whole {
-        return Written { number: 8, count: 0 };
+        return Written {
+            number: 8,
+            count: 0,
+        };
     }
     let count = merge::merge(n, raster, codes, levels, colours);
-    Written { number: 0, count: count as u32 }
+    Written {
+        number: 0,
+        count: count as u32,
+    }
 }
 
 // A block list to its raster, row by row.
@@ -67,12 +91,21 @@ pub fn to_raster(n: u32, codes: &[u32], levels: &[u8], colours: &[u8], raster: &
 {
     let fault = check(n, codes, levels, colours);
     if fault != 0 {
-        return Written { number: fault, count: 0 };
+        return Written {
+            number: fault,
+            count: 0,
+        };
     }
     let whole = location::pixels(n);
     if raster.len() < whole {
-        return Written { number: 8, count: 0 };
+        return Written {
+            number: 8,
+            count: 0,
+        };
     }
     paint::paint(n, codes, levels, colours, raster);
-    Written { number: 0, count: whole as u32 }
+    Written {
+        number: 0,
+        count: whole as u32,
+    }
 }

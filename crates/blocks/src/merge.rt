@@ -29,7 +29,13 @@ fn level_at(n: u32, raster: &[u8], c: u32) -> u32
 }
 
 // Writes the blocks of the raster and returns their number.
-pub(crate) fn merge(n: u32, raster: &[u8], codes: &mut [u32], levels: &mut [u8], colours: &mut [u8]) -> usize
+pub(crate) fn merge(
+    n: u32,
+    raster: &[u8],
+    codes: &mut [u32],
+    levels: &mut [u8],
+    colours: &mut [u8],
+) -> usize
     requires { ⌜ Room n (now raster) (now codes) (now levels) (now colours) ⌝ }
     ensures { λ r. ⌜ Merged n (now (raster .entry)) (now (codes .entry)) (now (levels .entry)) (now (colours .entry)) (now (codes .exit)) (now (levels .exit)) (now (colours .exit)) r ⌝ }
 {

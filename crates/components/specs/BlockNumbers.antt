@@ -1,5 +1,5 @@
 -- Counting the representatives of blocks gives the labels and the number of regions.
-use mathlib.Core.Path.{_≡_, refl, sym, ap, _∙_, subst}
+use mathlib.Core.Path.{_≡_, sym, ap, _∙_, subst}
 use mathlib.Core.Logic.{_↔_}
 use mathlib.Core.List.{List}
 use Prim.Native.Nat.{ℕ, suc, _^_, _≤_, _<_}
@@ -12,14 +12,14 @@ use Rattle.quadtree.specs.Blocks.{Block, pixels, paint}
 use Rattle.quadtree.specs.Number.{cover}
 use Rattle.unions.specs.Pairs.{Pair, Linked}
 use Rattle.unions.specs.Representatives.{rep, rep-links, linked-rep, rep-le, rep-twice, rep-least, linked-to-rep}
-use Rattle.unions.specs.Counting.{below, numberOf, Counted, counted, number-of-own, number-less, number-linked, CountsUp}
+use Rattle.unions.specs.Counting.{below, below-most, numberOf, counted, number-of-own, number-less, number-linked, CountsUp}
 use Rattle.unions.specs.Roots.{root}
 use Rattle.unions.specs.Numbering.{numbersBelow, length-numbersBelow, numbers-at}
-use Rattle.components.specs.Joined.{Connected, Joined, connected-through, connected-back, connected-to}
+use Rattle.components.specs.Joined.{Connected, Joined, connected-to}
 use Rattle.components.specs.Numbers.{representatives, numbers, regions, labels}
 use Rattle.components.specs.Numbered.{RegionNumbers, no-other-numbering, each-number-given, number-below-regions, joined-to-representative, representative-is-least}
-use Rattle.components.specs.Holders.{holder, HoldsAt, pixels-grow, is-holder, held-before, pixel-held, first-pixel-held, held-in-image}
-use Rattle.components.specs.Labels.{all-first-pixels, block-is-joined, label-of-held, length-labels}
+use Rattle.components.specs.Holders.{holder, HoldsAt, pixels-grow, is-holder, pixel-held, first-pixel-held, held-in-image}
+use Rattle.components.specs.Labels.{all-first-pixels, label-of-held, length-labels}
 use Rattle.components.specs.BlockPairs.{blockPairs}
 use Rattle.components.specs.LinkedBlocks.{linked-exactly-when-connected}
 
@@ -91,8 +91,7 @@ module _ (n : ℕ) (bs : List Block) (covering : cover n 0 bs ≡ 0) where
 
   by-block-number : (c : ℕ) → c < 4 ^ n → byBlock c ≡ getD (numbers n (paint bs)) c 0
   by-block-number c l =
-      let at : (i : ℕ) → i < 4 ^ n → getD (tabulate (4 ^ n) byBlock) i 0 ≡ byBlock i = tabulate-at (4 ^ n) byBlock in
-      sym (at c l) ∙ ap (λ (x : List ℕ). getD x c 0) (no-other-numbering n (paint bs) (tabulate (4 ^ n) byBlock) table)
+      sym (at-place c l) ∙ ap (λ (x : List ℕ). getD x c 0) (no-other-numbering n (paint bs) (tabulate (4 ^ n) byBlock) table)
     where
       at-place : (i : ℕ) → i < 4 ^ n → getD (tabulate (4 ^ n) byBlock) i 0 ≡ byBlock i
       at-place = tabulate-at (4 ^ n) byBlock
@@ -123,10 +122,10 @@ module _ (n : ℕ) (bs : List Block) (covering : cover n 0 bs ≡ 0) where
   block-numbers-are-labels =
       ext-getD 0 (numbersBelow (rep all) (length bs)) (labels n bs) (length-numbersBelow (rep all) (length bs) ∙ sym (length-labels n bs))
       (λ i l.
-        let h : i < length bs = omega (arith, length-numbersBelow (rep all) (length bs)) in
-        numbers-at (rep all) (length bs) i h ∙ number-of-block i h)
+      let h : i < length bs = omega (arith, length-numbersBelow (rep all) (length bs)) in
+      numbers-at (rep all) (length bs) i h ∙ number-of-block i h)
 
-  -- There are as many regions as blocks that represent themselves.
+  -- There are as many regions as blocks that represent themselves, so no more than blocks.
   pub block-count-is-regions : below (rep (blockPairs n bs (length bs))) (length bs) ≡ regions n (paint bs)
   unfolding all
   block-count-is-regions = pick (decLt count (regions n (paint bs))) (decLt (regions n (paint bs)) count)
@@ -153,3 +152,6 @@ module _ (n : ℕ) (bs : List Block) (covering : cover n 0 bs ≡ 0) where
           ∙ w .value in
           absurd (omega (arith, at, number-below-regions n (paint bs) c (held-in-image n bs covering (w .at) c first)))
       pick (no g) (no h) = omega arith
+
+  pub regions-at-most-blocks : regions n (paint bs) ≤ length bs
+  regions-at-most-blocks = omega (arith, block-count-is-regions, below-most (rep (blockPairs n bs (length bs))) (length bs))

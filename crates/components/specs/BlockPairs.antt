@@ -1,18 +1,17 @@
 -- The pairs of blocks that the walk joins: each block with its north and its west neighbours of its colour.
-use mathlib.Core.Path.{_≡_, refl, sym, ap, _∙_, subst}
+use mathlib.Core.Path.{_≡_, refl, sym, ap, _∙_}
 use mathlib.Core.Logic.{_⊎_, inl, inr, _≢_}
-use mathlib.Core.Bool.{Bool, true, false}
+use mathlib.Core.Bool.{true, false}
 use mathlib.Core.List.{List, [], _∷_, List·Memᴰ, List·Memᴰ·head, List·Memᴰ·tail, List·Memᴰ·cases-cons, List·Memᴰ·not-nil}
 use Prim.Native.Nat.{ℕ, zero, suc, _+_, _-_, _^_, _≤_, _<_}
 use native.Mathlib.Nat.{eq-or-lt-of-le}
-use native.Mathlib.Decide.{ℕ-discrete, decLt}
+use native.Mathlib.Decide.{ℕ-discrete}
 use native.Mathlib.Omega.{arith}
-use lib.ListN.{length, take, getD}
-use lib.Dec.{eqb, ltb}
-use borrow.Author.Tests.{eqb-true, eq-eqb, ne-eqb, ltb-true, ltb-false, lt-ltb, le-ltb}
+use lib.ListN.{getD}
+use lib.Dec.{eqb}
+use borrow.Author.Tests.{eq-eqb, ne-eqb}
 use Rattle.location.specs.Codes.{code, column, row}
-use Rattle.quadtree.specs.Blocks.{Block, pixels, paint}
-use Rattle.quadtree.specs.Number.{cover}
+use Rattle.quadtree.specs.Blocks.{Block}
 use Rattle.quadtree.specs.Fields.{colours}
 use Rattle.unions.specs.Pairs.{Pair, pairOf}
 use Rattle.unions.specs.Joining.{onto, onto-old, onto-new, onto-cases}
@@ -28,6 +27,11 @@ spanPairs entry ks k x (suc s) =
       | true ↦ pairOf (entry x) k ∷ spanPairs entry ks k (suc x) s
       | false ↦ spanPairs entry ks k (suc x) s
     ]
+
+-- Of the blocks 0 and 1 the first has the colour of block 2.
+like-coloured-only : spanPairs (λ x. x) (5 ∷ 6 ∷ 5 ∷ []) 2 0 2 ≡ pairOf 0 2 ∷ []
+unfolding spanPairs
+like-coloured-only = refl
 
 -- No pairs where a block begins in the first row, or in the first column: nothing of the image lies beyond.
 unfoldable pub unlessFirst : ℕ → List Pair → List Pair

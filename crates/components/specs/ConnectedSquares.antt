@@ -1,14 +1,14 @@
 -- A square of one colour is connected: from each of its pixels west, then north, to its northwest pixel.
-use mathlib.Core.Path.{_≡_, refl, sym, ap, _∙_, subst}
+use mathlib.Core.Path.{_≡_, sym, _∙_}
 use mathlib.Core.List.{List}
 use Prim.Native.Nat.{ℕ, zero, suc, _+_, _-_, _%_, _^_, _≤_, _<_}
 use native.Mathlib.Omega.{arith}
 use lib.ListN.{getD}
 use Rattle.sequences.specs.Powers.{pow2-pos}
 use Rattle.location.specs.Codes.{code, column, row}
-use Rattle.location.specs.Interleaving.{column-below, row-below, column-of-code, row-of-code, code-of-coordinates, code-below}
+use Rattle.location.specs.Interleaving.{column-below, row-below, column-of-code, row-of-code, code-of-coordinates}
 use Rattle.location.specs.Squares.{block-is-square, square-in-image}
-use Rattle.components.specs.Joined.{Step, north, west, Beside, Connected, start, connected-through, connected-step}
+use Rattle.components.specs.Joined.{Step, north, west, Connected, start, connected-through, connected-step}
 
 -- The square of level l at the code d, all its pixels among the codes below m and of one colour.
 pub record OneColour (n : ℕ) (px : List ℕ) (m l d : ℕ) : Type 0 where

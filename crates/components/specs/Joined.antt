@@ -1,5 +1,6 @@
 -- Pixels that belong together: a 4-connected path of one colour joins them.
 use mathlib.Core.Path.{_≡_, refl, sym, _∙_, subst}
+use mathlib.Core.Logic.{_≢_}
 use mathlib.Core.List.{List}
 use Prim.Native.Nat.{ℕ, suc, _^_, _≤_, _<_}
 use native.Mathlib.Omega.{arith}
@@ -41,6 +42,16 @@ step-back (west a b) = east (sym a) (sym b)
 
 pub beside-back : {n c d : ℕ} → Beside n c d → Beside n d c
 beside-back b = record { from = b .to; to = b .from; step = step-back (b .step) }
+
+-- "Touching corners join nothing": neighbours share a column or a row.
+pub corners-join-nothing : (n c d : ℕ) → column n c ≢ column n d → row n c ≢ row n d → ¬ Beside n c d
+corners-join-nothing n c d f g b = pick (b .step)
+  where
+    pick : Step n c d → ⊥
+    pick (north x y) = f (sym x)
+    pick (east x y) = g (sym y)
+    pick (south x y) = f (sym x)
+    pick (west x y) = g (sym y)
 
 module _ {n : ℕ} {px : List ℕ} {m : ℕ} where
   pub connected-from : {c d : ℕ} → Connected n px m c d → c < m

@@ -6,14 +6,13 @@ use Prim.Native.Nat.{ℕ, zero, suc, _^_, _<_}
 use native.Mathlib.Omega.{arith}
 use lib.ListN.{length, take, getD, length-map}
 use lib.Seq.{take-length}
-use Rattle.sequences.specs.Powers.{pow4-pos}
 use Rattle.quadtree.specs.Blocks.{Block, blocks, pixels, paint}
 use Rattle.quadtree.specs.Number.{cover, number}
 use Rattle.staircase.specs.FirstBlocks.{Within, all-pixels, accepted-covers}
 use Rattle.components.specs.Joined.{Connected, Joined, connected-through, connected-back}
-use Rattle.components.specs.Numbers.{numbers, regions, labels}
+use Rattle.components.specs.Numbers.{numbers, labels}
 use Rattle.components.specs.Numbered.{one-number-exactly-when-joined}
-use Rattle.components.specs.Holders.{blockAt, holder, HoldsAt, pixels-grow, held-colour, held-before, placed, pixels-with, within-held, first-pixel-held, first-pixels-in-image, held-in-image, pixel-held}
+use Rattle.components.specs.Holders.{blockAt, holder, HoldsAt, pixels-grow, held-colour, held-before, placed, pixels-with, within-held, first-pixel-held, held-in-image, pixel-held}
 use Rattle.components.specs.ConnectedSquares.{OneColour, square-is-connected}
 
 pub length-labels : (n : ℕ) (bs : List Block) → length (labels n bs) ≡ length bs
@@ -82,7 +81,7 @@ pub accepted-labels-equal-exactly-when-joined : (n : ℕ) (codes levels colours 
     → (i j c d : ℕ) → i < length (blocks codes levels colours) → j < length (blocks codes levels colours)
     → Within (blockAt (blocks codes levels colours) i) c → Within (blockAt (blocks codes levels colours) j) d
     → (getD (labels n (blocks codes levels colours)) i 0 ≡ getD (labels n (blocks codes levels colours)) j 0)
-      ↔ Joined n (paint (blocks codes levels colours)) c d
+    ↔ Joined n (paint (blocks codes levels colours)) c d
 accepted-labels-equal-exactly-when-joined n codes levels colours accepted i j c d a b v w =
     let bs : List Block = blocks codes levels colours in
     let covering : cover n 0 bs ≡ 0 = accepted-covers n codes levels colours accepted in

@@ -1,19 +1,17 @@
 -- The border of the walk: for each column and each row the last block done in it.
-use mathlib.Core.Path.{_≡_, refl, sym, ap, _∙_, subst}
-use mathlib.Core.Logic.{_↔_}
+use mathlib.Core.Path.{_≡_, ap, _∙_}
 use mathlib.Core.List.{List}
-use Prim.Native.Nat.{ℕ, zero, suc, _+_, _-_, _%_, _^_, _≤_, _<_}
+use Prim.Native.Nat.{ℕ, suc, _+_, _-_, _%_, _^_, _≤_, _<_}
 use native.Mathlib.Omega.{arith}
 use lib.ListN.{length, take}
 use Rattle.sequences.specs.Powers.{pow2-pos}
 use Rattle.location.specs.Codes.{code, column, row}
-use Rattle.location.specs.Interleaving.{column-below, row-below, code-below}
 use Rattle.location.specs.Squares.{block-is-square, square-in-image}
 use Rattle.quadtree.specs.Blocks.{Block, pixels}
 use Rattle.quadtree.specs.Number.{cover}
 use Rattle.staircase.specs.Staircase.{done, done-inside}
 use Rattle.staircase.specs.Edges.{eastFrom, northFrom, Border}
-use Rattle.staircase.specs.Rows.{doneInRow, doneInColumn, row-end, column-end, row-most, column-most, one-side-per-row, one-side-per-column}
+use Rattle.staircase.specs.Rows.{doneInRow, doneInColumn, row-end, column-end, one-side-per-row, one-side-per-column}
 use Rattle.staircase.specs.NextBlock.{InColumns, InRows, done-north-of-block, done-west-of-block, columns-before-block, rows-before-block, columns-after-block, rows-after-block, other-columns-stay, other-rows-stay}
 use Rattle.components.specs.Holders.{blockAt, holder, HoldsAt, is-holder, held-before, placed, pixels-with, pixel-held, first-pixels-in-image}
 

@@ -1,10 +1,10 @@
 -- The pairs joined by the first k blocks link exactly the blocks whose pixels are connected within the first k blocks.
 use mathlib.Core.Path.{_≡_, refl, sym, ap, ap₂, _∙_, subst}
 use mathlib.Core.Logic.{_⊎_, inl, inr, _↔_}
-use mathlib.Core.List.{List, [], _∷_, map, List·Memᴰ, List·Memᴰ·not-nil}
+use mathlib.Core.List.{List, [], _∷_, List·Memᴰ, List·Memᴰ·not-nil}
 use Prim.Native.Nat.{ℕ, zero, suc, _+_, _-_, _^_, _≤_, _<_}
 use native.Mathlib.Nat.{eq-or-lt-of-le}
-use native.Mathlib.Decide.{decLt, ℕ-discrete}
+use native.Mathlib.Decide.{decLt}
 use native.Mathlib.Omega.{arith}
 use lib.ListN.{length, take, getD}
 use Rattle.sequences.specs.Powers.{pow2-pos}
@@ -14,13 +14,12 @@ use Rattle.location.specs.Squares.{square-in-image}
 use Rattle.quadtree.specs.Blocks.{Block, pixels, paint}
 use Rattle.quadtree.specs.Number.{cover}
 use Rattle.quadtree.specs.Fields.{colours}
-use Rattle.staircase.specs.NextBlock.{InColumns, InRows}
 use Rattle.unions.specs.Pairs.{Pair, pairOf, Linked, same, pair, symmetric, transitive, listed}
-use Rattle.components.specs.Joined.{Step, north, east, south, west, Beside, Connected, start, on, beside-back, connected-from, connected-to, connected-through, connected-step, connected-back}
-use Rattle.components.specs.Holders.{blockAt, holder, HoldsAt, one-holder, is-holder, held-before, held-colour, placed, pixel-held, first-pixel-held, first-pixels-in-image, held-in-image}
+use Rattle.components.specs.Joined.{Step, north, east, south, west, Beside, Connected, start, on, connected-from, connected-to, connected-through, connected-step, connected-back}
+use Rattle.components.specs.Holders.{blockAt, holder, HoldsAt, one-holder, held-before, held-colour, placed, pixel-held}
 use Rattle.components.specs.Labels.{block-is-connected}
-use Rattle.components.specs.LastBlocks.{lastInColumn, lastInRow, ColumnOf, RowOf, DoneBy, square-held, held-square, north-entry, west-entry}
-use Rattle.components.specs.BlockPairs.{spanPairs, northPairs, westPairs, blockPairs, OfSpan, span-pair, span-listed, north-pairs, no-north-pairs, west-pairs, no-west-pairs, no-pairs, north-among, west-among, newest-pairs}
+use Rattle.components.specs.LastBlocks.{lastInColumn, lastInRow, ColumnOf, RowOf, square-held, held-square, north-entry, west-entry}
+use Rattle.components.specs.BlockPairs.{northPairs, westPairs, blockPairs, OfSpan, span-pair, span-listed, north-pairs, no-north-pairs, west-pairs, no-west-pairs, no-pairs, north-among, west-among, newest-pairs}
 
 pub colour-at : (bs : List Block) (i : ℕ) → i < length bs → getD (colours bs) i 0 ≡ blockAt bs i .colour
 colour-at [] i h = absurd (omega arith)

@@ -1,20 +1,18 @@
 -- The pairs of neighbours of one colour link exactly the pixels that paths of one colour connect.
 use mathlib.Core.Path.{_≡_, refl, sym, ap, ap₂, _∙_, subst}
 use mathlib.Core.Logic.{_⊎_, inl, inr, _↔_}
-use mathlib.Core.Bool.{Bool, true, false}
-use mathlib.Core.List.{List, [], _∷_, List·Memᴰ, List·Memᴰ·head, List·Memᴰ·tail, List·Memᴰ·cases-cons, List·Memᴰ·not-nil}
+use mathlib.Core.List.{List, _∷_, List·Memᴰ, List·Memᴰ·head, List·Memᴰ·tail, List·Memᴰ·cases-cons, List·Memᴰ·not-nil}
 use Prim.Native.Nat.{ℕ, zero, suc, _-_, _^_, _≤_, _<_}
 use native.Mathlib.Nat.{eq-or-lt-of-le}
 use native.Mathlib.Decide.{ℕ-discrete}
 use native.Mathlib.Omega.{arith}
 use lib.ListN.{getD}
-use lib.Dec.{eqb}
-use borrow.Author.Tests.{eqb-true, eqb-false, eq-eqb, ne-eqb}
+use borrow.Author.Tests.{eq-eqb, ne-eqb}
 use Rattle.location.specs.Codes.{code, column, row}
-use Rattle.location.specs.Interleaving.{column-below, row-below, column-of-code, row-of-code, code-of-coordinates, code-below}
+use Rattle.location.specs.Interleaving.{column-below, row-below, column-of-code, row-of-code, code-of-coordinates}
 use Rattle.staircase.specs.Staircase.{code-grows}
-use Rattle.unions.specs.Pairs.{Pair, pairOf, Linked, same, pair, symmetric, transitive, listed, linked-among}
-use Rattle.components.specs.Joined.{Step, north, east, south, west, Beside, Connected, start, on, beside-back, connected-from, connected-to, connected-through, connected-step, connected-back}
+use Rattle.unions.specs.Pairs.{Pair, pairOf, Linked, same, pair, symmetric, transitive, listed}
+use Rattle.components.specs.Joined.{Step, north, east, south, west, Beside, Connected, start, on, connected-to, connected-through, connected-step, connected-back}
 use Rattle.components.specs.Numbers.{westOf, northOf, pairIfAlike, alikePairs}
 
 -- ---- the neighbour in the west, and the one in the north

@@ -1,19 +1,19 @@
 -- What region numbers say: equal exactly for joined pixels, 0, 1, 2, .. by least codes, and no other numbers are so.
-use mathlib.Core.Path.{_≡_, refl, sym, ap, _∙_, subst}
-use mathlib.Core.Logic.{_⊎_, inl, inr, ⊎-elim, _↔_}
-use mathlib.Core.List.{List, [], _∷_, List·Memᴰ}
-use Prim.Native.Nat.{ℕ, suc, _^_, _≤_, _<_}
+use mathlib.Core.Path.{_≡_, sym, ap, _∙_}
+use mathlib.Core.Logic.{_⊎_, inl, inr, _↔_}
+use mathlib.Core.List.{List}
+use Prim.Native.Nat.{ℕ, _^_, _≤_, _<_}
 use native.Mathlib.Decide.{decLt, ℕ-discrete}
 use native.Mathlib.Omega.{arith}
 use lib.ListN.{length, getD, length-map}
 use lib.Seq.{ext-getD}
 use Rattle.unions.specs.Pairs.{Pair, Linked}
 use Rattle.unions.specs.Representatives.{rep, rep-links, linked-rep, rep-le, rep-twice, rep-least, linked-to-rep}
-use Rattle.unions.specs.Classes.{classes, length-classes, classes-rep, Inside, inside-each, getD-map}
-use Rattle.unions.specs.Counting.{below, below-same, below-less, numberOf, Counted, counted, number-apart, number-same, number-rises, number-of-own, number-less, number-linked, Before, CountsUp, numbers-count-up, only-numbers}
-use Rattle.components.specs.Joined.{Connected, start, Joined, connected-to, connected-through, connected-back}
+use Rattle.unions.specs.Classes.{length-classes, classes-rep, Inside, inside-each, getD-map}
+use Rattle.unions.specs.Counting.{below, below-most, below-same, numberOf, counted, number-rises, number-of-own, number-less, number-linked, CountsUp, numbers-count-up, only-numbers}
+use Rattle.components.specs.Joined.{Beside, Joined, connected-to, connected-step, connected-colour}
 use Rattle.components.specs.Numbers.{westOf, northOf, alikePairs, representatives, numbers, regions}
-use Rattle.components.specs.Neighbours.{Side, alike-side, west-le, north-le, connected-linked, linked-exactly-when-connected}
+use Rattle.components.specs.Neighbours.{Side, alike-side, west-le, north-le, linked-exactly-when-connected}
 
 -- The pixel c has the least code of its region.
 pub record LeastCode (n : ℕ) (px : List ℕ) (c : ℕ) : Type 0 where
@@ -80,6 +80,9 @@ module _ (n : ℕ) (px : List ℕ) where
   unfolding regions pairs
   regions-counted = below-same (λ k. getD (representatives n px) k 0) (rep pairs) (4 ^ n) (λ i h. representative-at i h)
 
+  pub regions-at-most-pixels : regions n px ≤ 4 ^ n
+  regions-at-most-pixels = omega (arith, regions-counted, below-most (rep (alikePairs n px (4 ^ n))) (4 ^ n))
+
   joined-exactly : (c d : ℕ) → c < 4 ^ n → Linked pairs c d ↔ Joined n px c d
   unfolding pairs
   joined-exactly c d l = linked-exactly-when-connected n px (4 ^ n) (omega arith) c d l
@@ -92,6 +95,12 @@ module _ (n : ℕ) (px : List ℕ) where
     λ e. joined-exactly c d a .0 (number-linked pairs c d .0 (sym (number-at c a) ∙ e ∙ number-at d b)),
     λ j. number-at c a ∙ number-linked pairs c d .1 (joined-exactly c d a .1 j) ∙ sym (number-at d b),
   )
+
+  -- Neighbours have one number exactly when they have one colour.
+  pub neighbours-of-one-number-exactly-when-alike : (c d : ℕ) → Beside n c d → (getD (numbers n px) c 0 ≡ getD (numbers n px) d 0) ↔ (getD px d 0 ≡ getD px c 0)
+  neighbours-of-one-number-exactly-when-alike c d b =
+      let both = one-number-exactly-when-joined c d (b .from) (b .to) in
+      (λ e. connected-colour (both .0 e), λ e. both .1 (connected-step (b .from) (b .to) b e))
 
   -- The representative is the least code that is joined.
   pub joined-to-representative : (c : ℕ) → c < 4 ^ n → Joined n px c (getD (representatives n px) c 0)

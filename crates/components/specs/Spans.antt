@@ -2,8 +2,8 @@
 use mathlib.Core.Path.{_≡_, refl, sym, ap, _∙_}
 use mathlib.Core.Logic.{_≢_}
 use mathlib.Core.Bool.{cond}
-use mathlib.Core.List.{List, []}
-use Prim.Native.Nat.{ℕ, zero, suc, _+_, _-_, _≤_, _<_}
+use mathlib.Core.List.{List}
+use Prim.Native.Nat.{ℕ, suc, _+_, _-_, _≤_, _<_}
 use native.Mathlib.Numerals.{add-one}
 use native.Mathlib.Decide.{ℕ-discrete}
 use native.Mathlib.Omega.{arith}
@@ -13,7 +13,7 @@ use borrow.Author.Tests.{eq-eqb, ne-eqb}
 use Rattle.unions.specs.Pairs.{Pair, pairOf}
 use Rattle.unions.specs.Representatives.{joinAt}
 use Rattle.unions.specs.Roots.{Low, root}
-use Rattle.unions.specs.Joining.{Forest, unchanged, joins, joins-none, joins-first}
+use Rattle.unions.specs.Joining.{Forest, joins, joins-none, joins-first}
 use Rattle.components.specs.BlockPairs.{spanPairs, span-yes, span-no, span-none, unlessFirst, pairs-at-edge, pairs-inside}
 
 -- The representatives after the blocks b and k were joined if their colours are equal.
@@ -28,6 +28,14 @@ alike-joined ks r b k h = simp (eq-eqb (getD ks b 0) (getD ks k 0) h)
 pub unlike-kept : (ks : List ℕ) (r : ℕ → ℕ) (b k : ℕ) → getD ks b 0 ≢ getD ks k 0 → joinIfAlike ks r b k ≡ r
 unfolding joinIfAlike
 unlike-kept ks r b k h = simp (ne-eqb (getD ks b 0) (getD ks k 0) h)
+
+-- Two blocks of one colour are joined, others are left.
+pub alike-forest : (ks : List ℕ) (b k : ℕ) {p₀ p : List ℕ} → getD ks b 0 ≡ getD ks k 0 → Forest p₀ (joinAt (root p₀) (pairOf b k)) p
+    → Forest p₀ (joinIfAlike ks (root p₀) b k) p
+alike-forest ks b k {p₀} h f = record { roots = f .roots ∙ sym (alike-joined ks (root p₀) b k h); low = f .low; long = f .long }
+
+pub unlike-forest : (ks : List ℕ) (b k : ℕ) {p : List ℕ} → getD ks b 0 ≢ getD ks k 0 → Low p → Forest p (joinIfAlike ks (root p) b k) p
+unlike-forest ks b k {p} h low = record { roots = sym (unlike-kept ks (root p) b k h); low = low; long = refl }
 
 -- One entry of the span, then the rest.
 joins-entry : (entry : ℕ → ℕ) (ks : List ℕ) (k x s : ℕ) (r : ℕ → ℕ)

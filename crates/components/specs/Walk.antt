@@ -1,41 +1,29 @@
 -- The walk over the blocks of an accepted list: what holds after k blocks, that one block more keeps it, and what it comes to.
-use mathlib.Core.Path.{_≡_, refl, sym, ap, ap₂, _∙_, subst}
-use mathlib.Core.Logic.{_⊎_, inl, inr, _↔_}
+use mathlib.Core.Path.{_≡_, refl, sym, ap, _∙_}
+use mathlib.Core.Logic.{_⊎_, inl, inr}
 use mathlib.Core.List.{List, [], _∷_}
 use Prim.Native.Nat.{ℕ, zero, suc, _+_, _-_, _*_, _^_, _≤_, _<_}
-use native.Mathlib.Numerals.{add-one}
 use native.Mathlib.Nat.{eq-or-lt-of-le}
-use native.Mathlib.Decide.{decLe, decLt}
 use native.Mathlib.Omega.{arith}
-use lib.ListN.{length, take, getD, replicate, length-replicate}
-use lib.Seq.{ext-getD}
-use Rattle.sequences.specs.Over.{over, length-over, over-inside, over-beyond}
+use lib.ListN.{length, take, getD}
 use Rattle.sequences.specs.Ranges.{range, length-range}
-use Rattle.sequences.specs.Powers.{pow2-pos, pow4-pos, square-of-side}
 use Rattle.location.specs.Codes.{code, column, row}
-use Rattle.location.specs.Interleaving.{column-below, row-below}
 use Rattle.location.specs.Splitting.{column-wider, row-wider}
 use Rattle.location.specs.Squares.{square-in-image}
-use Rattle.quadtree.specs.Blocks.{Block, blocks, pixels, paint}
-use Rattle.quadtree.specs.Number.{cover, number}
+use Rattle.quadtree.specs.Blocks.{Block, blocks, pixels}
 use Rattle.quadtree.specs.Fields.{colours, colours-of-blocks, length-blocks}
-use Rattle.quadtree.specs.Accepted.{Passes, number-zero}
+use Rattle.quadtree.specs.Accepted.{Passes}
 use Rattle.staircase.specs.Staircase.{done, done-inside}
 use Rattle.staircase.specs.Rows.{doneInRow, doneInColumn, row-end, column-end}
-use Rattle.staircase.specs.NextBlock.{InColumns, InRows, columns-before-block, rows-before-block}
+use Rattle.staircase.specs.NextBlock.{columns-before-block, rows-before-block}
 use Rattle.unions.specs.Pairs.{Pair}
 use Rattle.unions.specs.Representatives.{rep}
 use Rattle.unions.specs.Counting.{below}
 use Rattle.unions.specs.Roots.{Low, root, range-low, range-roots}
-use Rattle.unions.specs.Joining.{Forest, joins, onto, forest-rep}
-use Rattle.unions.specs.Numbering.{numbersBelow}
-use Rattle.components.specs.Joined.{Connected}
-use Rattle.components.specs.Numbers.{regions, labels}
-use Rattle.components.specs.Holders.{blockAt, HoldsAt, placed}
-use Rattle.components.specs.LastBlocks.{lastInColumn, lastInRow, ColumnOf, RowOf, DoneBy, north-entry, west-entry, columns-written, rows-written, other-columns-kept, other-rows-kept}
-use Rattle.components.specs.BlockPairs.{spanPairs, unlessFirst, pairs-at-edge, pairs-inside, span-same, northPairs, westPairs, blockPairs, no-pairs, pairs-one-more}
-use Rattle.components.specs.BlockNumbers.{one-root-exactly-when-connected, block-numbers-are-labels, block-count-is-regions}
-use Rattle.components.specs.Stretches.{fill, length-fill, fill-inside, fill-before, fill-beyond, fill-front}
+use Rattle.components.specs.Holders.{blockAt, placed}
+use Rattle.components.specs.LastBlocks.{lastInColumn, lastInRow, ColumnOf, RowOf, north-entry, west-entry}
+use Rattle.components.specs.BlockPairs.{spanPairs, unlessFirst, pairs-at-edge, span-same, northPairs, westPairs, blockPairs, no-pairs}
+use Rattle.components.specs.Stretches.{fill}
 use Rattle.components.specs.Spans.{Neighbours}
 
 -- After the first k blocks: the roots of the parents p are the representatives of the pairs joined so far; the first 2^n entries of

@@ -1,35 +1,32 @@
 -- One block more of the walk keeps what holds, and what the walk comes to: labels, the number of regions, and a work list of zeros.
-use mathlib.Core.Path.{_≡_, refl, sym, ap, _∙_, subst}
+use mathlib.Core.Path.{_≡_, sym, ap, _∙_}
 use mathlib.Core.Logic.{_↔_}
 use mathlib.Core.List.{List}
 use Prim.Native.Nat.{ℕ, zero, suc, _+_, _*_, _^_, _≤_, _<_}
 use native.Mathlib.Numerals.{add-one}
+use native.Mathlib.Nat.{pow-le-pow-left}
 use native.Mathlib.Decide.{decLe, decLt}
 use native.Mathlib.Omega.{arith}
 use lib.ListN.{length, take, getD, replicate, length-replicate}
 use lib.Seq.{ext-getD}
 use Rattle.sequences.specs.Over.{over, length-over, over-inside, over-beyond}
 use Rattle.location.specs.Codes.{column, row}
-use Rattle.quadtree.specs.Blocks.{Block, blocks, pixels, paint}
+use Rattle.quadtree.specs.Blocks.{blocks, pixels, paint}
 use Rattle.quadtree.specs.Accepted.{Passes}
 use Rattle.staircase.specs.Rows.{doneInRow, doneInColumn}
 use Rattle.unions.specs.Representatives.{rep}
 use Rattle.unions.specs.Counting.{below}
-use Rattle.unions.specs.Roots.{Low, root}
+use Rattle.unions.specs.Roots.{root}
 use Rattle.unions.specs.Joining.{Forest, joins, onto, forest-rep}
 use Rattle.unions.specs.Numbering.{numbersBelow}
 use Rattle.components.specs.Joined.{Connected}
 use Rattle.components.specs.Numbers.{regions, labels}
 use Rattle.components.specs.Holders.{HoldsAt}
 use Rattle.components.specs.LastBlocks.{lastInColumn, lastInRow, ColumnOf, RowOf, columns-written, rows-written, other-columns-kept, other-rows-kept}
-use Rattle.components.specs.BlockPairs.{northPairs, westPairs, blockPairs, pairs-one-more}
+use Rattle.components.specs.BlockPairs.{blockPairs, pairs-one-more}
 use Rattle.components.specs.BlockNumbers.{one-root-exactly-when-connected, block-numbers-are-labels, block-count-is-regions}
 use Rattle.components.specs.Stretches.{fill, length-fill, fill-inside, fill-before, fill-beyond, fill-front}
 use Rattle.components.specs.Walk.{Walking, northSpan, westSpan, stored, count, inside, column-of, row-of, of-column, of-row, block-in-image, north-span, west-span}
-
-side-le-pixels : (n : ℕ) → 2 ^ n ≤ 4 ^ n
-side-le-pixels zero = omega arith
-side-le-pixels (suc n) = omega (arith, side-le-pixels n)
 
 module _ {n : ℕ} {cs ls ks : List ℕ} (passes : Passes n cs ls ks) {work₀ : List ℕ} {k : ℕ} {work p : List ℕ} (w : Walking n cs ls ks work₀ k work p) where
   module _ (less : k < length cs) where
@@ -55,7 +52,7 @@ module _ {n : ℕ} {cs ls ks : List ℕ} (passes : Passes n cs ls ks) {work₀ :
     -- Off its columns, and off its rows, the entries are as they were.
     column-entry-kept : (x : ℕ) → x < 2 ^ n → ¬ ColumnOf n (blocks cs ls ks) k x → getD (stored n cs ls k work) x 0 ≡ getD work x 0
     column-entry-kept x a off =
-        fill-before (fill work (column n (getD cs k 0)) (2 ^ getD ls k 0) k) (2 ^ n + row n (getD cs k 0)) (2 ^ getD ls k 0) k x (omega arith)
+        fill-before (fill work (column n (getD cs k 0)) (2 ^ getD ls k 0) k) _ _ k x (omega arith)
         ∙ pick (decLt x (column n (getD cs k 0))) (decLt x (column n (getD cs k 0) + 2 ^ getD ls k 0))
       where
         pick : Dec (x < column n (getD cs k 0)) → Dec (x < column n (getD cs k 0) + 2 ^ getD ls k 0)
@@ -87,9 +84,9 @@ module _ {n : ℕ} {cs ls ks : List ℕ} (passes : Passes n cs ls ks) {work₀ :
 
         pick : Dec (ColumnOf n (blocks cs ls ks) k x) → getD (stored n cs ls k work) x 0 ≡ lastInColumn n (blocks cs ls ks) (suc k) x
         pick (yes c) =
-            fill-before first (2 ^ n + row n (getD cs k 0)) (2 ^ getD ls k 0) k x (omega arith)
+            fill-before first _ _ k x (omega arith)
             ∙ fill-inside work (column n (getD cs k 0)) (2 ^ getD ls k 0) k x (omega (arith, block-in-image passes k less, roomy))
-                (of-column passes k less x c .0) (of-column passes k less x c .1)
+            (of-column passes k less x c .0) (of-column passes k less x c .1)
             ∙ sym (columns-written n (blocks cs ls ks) (passes .covering) k (inside passes k less) x c)
         pick (no off) =
             let kept = other-columns-kept n (blocks cs ls ks) (passes .covering) k (inside passes k less) x a off in
@@ -106,7 +103,7 @@ module _ {n : ℕ} {cs ls ks : List ℕ} (passes : Passes n cs ls ks) {work₀ :
         pick (yes r) =
             let span = of-row passes k less y r in
             fill-inside first (2 ^ n + row n (getD cs k 0)) (2 ^ getD ls k 0) k (2 ^ n + y)
-                (omega (arith, block-in-image passes k less, roomy, length-fill work (column n (getD cs k 0)) (2 ^ getD ls k 0) k)) (omega arith) (omega arith)
+            (omega (arith, block-in-image passes k less, roomy, length-fill work (column n (getD cs k 0)) (2 ^ getD ls k 0) k)) (omega arith) (omega arith)
             ∙ sym (rows-written n (blocks cs ls ks) (passes .covering) k (inside passes k less) y r)
         pick (no off) =
             let kept = other-rows-kept n (blocks cs ls ks) (passes .covering) k (inside passes k less) y a off in
@@ -115,7 +112,7 @@ module _ {n : ℕ} {cs ls ks : List ℕ} (passes : Passes n cs ls ks) {work₀ :
     beyond-after : (i : ℕ) → 2 * 2 ^ n ≤ i → getD (stored n cs ls k work) i 0 ≡ getD work₀ i 0
     beyond-after i h =
         fill-beyond (fill work (column n (getD cs k 0)) (2 ^ getD ls k 0) k) (2 ^ n + row n (getD cs k 0)) (2 ^ getD ls k 0) k i
-            (omega (arith, block-in-image passes k less))
+        (omega (arith, block-in-image passes k less))
         ∙ fill-beyond work (column n (getD cs k 0)) (2 ^ getD ls k 0) k i (omega (arith, block-in-image passes k less))
         ∙ w .beyond i h
 
@@ -174,8 +171,8 @@ module _ {n : ℕ} {cs ls ks : List ℕ} (passes : Passes n cs ls ks) {work₀ :
   work-cleared h =
       fill-front work (2 * 4 ^ n) 0 (omega (arith, w .same-length))
       ∙ ext-getD 0 (over (replicate (2 * 4 ^ n) 0) work) (over (replicate (2 * 4 ^ n) 0) work₀)
-        (length-over zeros work (omega (arith, w .same-length, size)) ∙ w .same-length ∙ sym (length-over zeros work₀ (omega (arith, size))))
-        (λ i l. pick i (decLt i (2 * 4 ^ n)))
+      (length-over zeros work (omega (arith, w .same-length, size)) ∙ w .same-length ∙ sym (length-over zeros work₀ (omega (arith, size))))
+      (λ i l. pick i (decLt i (2 * 4 ^ n)))
     where
       zeros : List ℕ
       zeros = replicate (2 * 4 ^ n) 0
@@ -186,4 +183,4 @@ module _ {n : ℕ} {cs ls ks : List ℕ} (passes : Passes n cs ls ks) {work₀ :
       pick : (i : ℕ) → Dec (i < 2 * 4 ^ n) → getD (over zeros work) i 0 ≡ getD (over zeros work₀) i 0
       pick i (yes l) = over-inside zeros work i (omega (arith, size)) ∙ sym (over-inside zeros work₀ i (omega (arith, size)))
       pick i (no f) =
-          over-beyond zeros work i (omega (arith, size)) ∙ w .beyond i (omega (arith, side-le-pixels n)) ∙ sym (over-beyond zeros work₀ i (omega (arith, size)))
+          over-beyond zeros work i (omega (arith, size)) ∙ w .beyond i (omega (arith, pow-le-pow-left {n = 2} {m = 4} (omega arith) n)) ∙ sym (over-beyond zeros work₀ i (omega (arith, size)))

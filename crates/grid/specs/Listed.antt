@@ -1,16 +1,20 @@
 -- What is listed: each side between a region and what is not that region, once, and all closed outlines of the rule of steps.
 use mathlib.Core.Path.{_≡_, refl, sym, ap, _∙_, subst, subst₂}
-use mathlib.Core.Logic.{_⊎_, _↔_}
+use mathlib.Core.Logic.{_≢_, _⊎_, _↔_}
 use mathlib.Core.List.{List, [], _∷_, map}
 use Prim.Native.Nat.{ℕ, zero, suc, _^_, _≤_, _<_}
 use native.Mathlib.Omega.{arith}
 use lib.ListN.{length, getD, length-map}
+use Rattle.location.specs.Codes.{code}
 use Rattle.lattice.specs.Walks.{outline, corners}
 use Rattle.orbits.specs.Members.{In, Distinct, one-place}
 use Rattle.grid.specs.Map.{regionAt}
+use Rattle.grid.specs.Margins.{region-inside}
 use Rattle.grid.specs.Steps.{Edge}
 use Rattle.grid.specs.Cycles.{cycleFrom, northSide, cycle}
 use Rattle.grid.specs.Listing.{startCodes, Cycle, cycleAt, listing, owners, pointsAt}
+use Rattle.grid.specs.Sides.{sideOf, beyond, side-is-edge}
+use Rattle.grid.specs.North.{side-small}
 use Rattle.grid.specs.Returning.{Ring, ring, same-cycle}
 use Rattle.grid.specs.Starting.{StartAt, Started, margin, start-says, says-start, some-start, one-start}
 use Rattle.grid.specs.Closing.{sides-of-corners}
@@ -169,6 +173,13 @@ module _ (n : ℕ) (nums : List ℕ) (regions : ℕ) (small : n ≤ 8) where
 
     pub each-side-once : SidesOnce m l
     each-side-once = record { once = once-in; nothing-else = edge-at }
+
+    -- In document 01's words: the side of a pixel beyond which lies another region or the outside.
+    pub pixel-side-once : (x y d : ℕ) → x < 2 ^ n → y < 2 ^ n → d < 4 → beyond m x y d ≢ m (suc x) (suc y) → OnceIn l (getD nums (code n x y) 0) (sideOf x y d)
+    pixel-side-once x y d a b h other =
+        let here : m (suc x) (suc y) ≡ suc (getD nums (code n x y) 0) = region-inside n nums x y a b in
+        once-in (getD nums (code n x y) 0) (sideOf x y d)
+        (side-is-edge m (suc (getD nums (code n x y) 0)) x y d (omega (arith, side-small n small)) h (omega arith) here .1 (λ e. other (e ∙ sym here)))
 
     outline-of : (r e : ℕ) → Edge m (suc r) e
         → (k : ℕ) × (k < length l) × (owner k ≡ r) × ((a : ℕ) → In a (cycleFrom m e) ↔ In a (sides k))

@@ -1,6 +1,6 @@
 -- Cycle form, document 01's own term (cause 16): "an even number of corners from 4 to 262,144, coordinates at most 256, first
 -- step eastward, then along y and x by turns, the closing step from last corner to first along y, no step of length 0".
-use mathlib.Core.Path.{_≡_, refl, sym, ap, _∙_}
+use mathlib.Core.Path.{_≡_, refl, ap}
 use mathlib.Core.Logic.{_≢_, _↔_}
 use mathlib.Core.Bool.{Bool, true, false, not, _&&_}
 use mathlib.Core.List.{List, [], _∷_}
@@ -75,7 +75,7 @@ pub record AlongY (p q : ℕ) : Type 0 where
   pub same-column : xOf p ≡ xOf q
   pub moves : yOf p ≢ yOf q
 
--- The steps at 0, 2, .. go along x and those at 1, 3, .. along y; so does the closing one, which is the last of an even number.
+-- The steps at 0, 2, .. go along x and those at 1, 3, .. along y; the closing one, the last of an even number, is among the latter.
 pub record CycleForm (cs : List ℕ) : Type 0 where
   pub even-number : length cs % 2 ≡ 0
   pub at-least-four : 4 ≤ length cs

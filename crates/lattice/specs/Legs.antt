@@ -1,15 +1,13 @@
 -- The step from one corner to the next: its digit, its length, and that walking it straight is a run of unit edges.
-use mathlib.Core.Path.{_≡_, refl, sym, ap, _∙_}
+use mathlib.Core.Path.{_≡_, refl}
 use mathlib.Core.Logic.{_≢_}
 use mathlib.Core.Bool.{Bool, true, false, cond}
-use mathlib.Core.List.{List, [], _∷_, _++_}
-use Prim.Native.Nat.{ℕ, zero, suc, _+_, _-_, _*_, _/_, _%_, _≤_, _<_}
+use Prim.Native.Nat.{ℕ, _-_, _%_, _≤_, _<_}
 use native.Mathlib.Decide.{ℕ-discrete, decLt}
 use native.Mathlib.Omega.{arith}
-use lib.ListN.{length}
 use lib.Dec.{eqb, ltb}
 use borrow.Author.Tests.{eq-eqb, ne-eqb, lt-ltb, le-ltb}
-use Rattle.lattice.specs.Directions.{xOf, yOf, move, edge}
+use Rattle.lattice.specs.Directions.{xOf, yOf}
 use Rattle.lattice.specs.Walks.{run, straight}
 use Rattle.lattice.specs.Straight.{far, Room}
 use Rattle.lattice.specs.CycleForm.{inside, along, AlongX, AlongY, inside-says, along-x-says, along-y-says}

@@ -7,3 +7,5 @@ pub mod Straight
 pub mod Corners
 pub mod Legs
 pub mod Outlines
+pub mod Closing
+pub mod Forms

@@ -1,16 +1,16 @@
 -- The corners of the walk around a cycle form are the corners of the form.
 use mathlib.Core.Path.{_≡_, refl, sym, ap, _∙_}
 use mathlib.Core.Logic.{_≢_}
-use mathlib.Core.Bool.{Bool, true, false, not, cond, _&&_}
+use mathlib.Core.Bool.{Bool, true, false, not, cond}
 use mathlib.Core.List.{List, [], _∷_, _++_, append-nil}
-use Prim.Native.Nat.{ℕ, zero, suc, _+_, _*_, _/_, _%_, _≤_, _<_}
+use Prim.Native.Nat.{ℕ, zero, suc, _+_, _%_, _<_}
 use native.Mathlib.Omega.{arith}
 use lib.ListN.{length, length-append}
 use Rattle.lattice.specs.Tests.{and-both, then-both, not-flips}
 use Rattle.lattice.specs.Directions.{move, edge, tail, digit}
 use Rattle.lattice.specs.Walks.{run, straight, walkFrom, outline, turns, lastOf, corners}
 use Rattle.lattice.specs.Corners.{turns-on, turns-turn}
-use Rattle.lattice.specs.CycleForm.{inside, allInside, along, byTurns, steps, cycleForm, parts, Parts}
+use Rattle.lattice.specs.CycleForm.{inside, allInside, along, byTurns, steps, cycleForm, parts}
 use Rattle.lattice.specs.Legs.{heading, distance, Leg, leg, straight-is}
 
 pub tail-edge : (p d : ℕ) → d < 4 → tail (edge p d) ≡ p
@@ -52,15 +52,15 @@ unfolding run
 length-run d zero p = refl
 length-run d (suc k) p = ap suc (length-run d k (move d p))
 
-abbrev Axis : Bool → ℕ → Type 0
+abbrev pub Axis : Bool → ℕ → Type 0
 Axis x d = d % 2 ≡ cond x 1 0
 
 -- The digit before the step at p goes along the other axis.
-crossing : (x : Bool) (d p q : ℕ) → Axis x d → Leg x p q → d ≢ heading p q
+pub crossing : (x : Bool) (d p q : ℕ) → Axis x d → Leg x p q → d ≢ heading p q
 crossing true d p q a g e = omega (arith, g .axis)
 crossing false d p q a g e = omega (arith, g .axis)
 
-next-axis : (x : Bool) (p q : ℕ) → Leg x p q → Axis (not x) (heading p q)
+pub next-axis : (x : Bool) (p q : ℕ) → Leg x p q → Axis (not x) (heading p q)
 next-axis true p q g = g .axis
 next-axis false p q g = g .axis
 
@@ -92,7 +92,7 @@ last-step x p first hp hf h =
     let b = and-both (not x) (along x p first) h in
     (not-flips x (b .0), leg x p first hp hf (b .1))
 
-turns-of-walk : (qs : List ℕ) (x : Bool) (d p first : ℕ) → Axis x d → inside p ≡ true → inside first ≡ true → allInside qs ≡ true → byTurns x p qs first ≡ true
+pub turns-of-walk : (qs : List ℕ) (x : Bool) (d p first : ℕ) → Axis x d → inside p ≡ true → inside first ≡ true → allInside qs ≡ true → byTurns x p qs first ≡ true
     → turns d (walkFrom p qs first) ≡ p ∷ qs
 unfolding walkFrom turns
 turns-of-walk [] x d p first a hp hf hs h =
@@ -102,7 +102,7 @@ turns-of-walk (q ∷ qs) x d p first a hp hf hs h =
     turns-leg x d p q (walkFrom q qs first) a (f .step)
     ∙ ap (λ t. p ∷ t) (turns-of-walk qs (not x) (heading p q) q first (next-axis x p q (f .step)) (f .there) hf (f .others) (f .onward))
 
-last-of-walk : (qs : List ℕ) (x : Bool) (e p first : ℕ) → inside p ≡ true → inside first ≡ true → allInside qs ≡ true → byTurns x p qs first ≡ true
+pub last-of-walk : (qs : List ℕ) (x : Bool) (e p first : ℕ) → inside p ≡ true → inside first ≡ true → allInside qs ≡ true → byTurns x p qs first ≡ true
     → digit (lastOf e (walkFrom p qs first)) % 2 ≡ 1
 unfolding walkFrom
 last-of-walk [] x e p first hp hf hs h =
@@ -121,7 +121,7 @@ corners-are e (x ∷ es) h = refl
 some-run : (d k p : ℕ) (es : List ℕ) → 0 < k → 0 < length (run d k p ++ es)
 some-run d k p es h = omega (arith, length-append (run d k p) es, length-run d k p)
 
-walk-some : (qs : List ℕ) (x : Bool) (p first : ℕ) → inside p ≡ true → inside first ≡ true → allInside qs ≡ true → byTurns x p qs first ≡ true → 0 < length (walkFrom p qs first)
+pub walk-some : (qs : List ℕ) (x : Bool) (p first : ℕ) → inside p ≡ true → inside first ≡ true → allInside qs ≡ true → byTurns x p qs first ≡ true → 0 < length (walkFrom p qs first)
 unfolding walkFrom
 walk-some [] x p first hp hf hs h =
     let g = last-step x p first hp hf h .1 in

@@ -1,10 +1,9 @@
 -- Straight walks: how far k unit steps lead, and that walking straight there is those k steps.
-use mathlib.Core.Path.{_≡_, refl, sym, ap, ap₂, _∙_}
+use mathlib.Core.Path.{_≡_, sym, ap, ap₂, _∙_}
 use mathlib.Core.Logic.{_≢_}
-use mathlib.Core.List.{List, [], _∷_, _++_}
+use mathlib.Core.List.{[], _∷_, _++_}
 use Prim.Native.Nat.{ℕ, zero, suc, _+_, _-_, _*_, _/_, _%_, _≤_, _<_}
 use native.Mathlib.Omega.{arith}
-use lib.Dec.{eqb, ltb}
 use borrow.Author.Tests.{eq-eqb, ne-eqb, lt-ltb, le-ltb}
 use Rattle.lattice.specs.Directions.{xOf, yOf, move, edge}
 use Rattle.lattice.specs.Walks.{run, straight}
@@ -94,3 +93,10 @@ unfolding run
 run-snoc d zero p r = ap (λ x. edge x d ∷ []) (sym (far-zero d p))
 run-snoc d (suc k) p r =
     ap (λ t. edge p d ∷ t) (run-snoc d k (move d p) (room-first d (suc k) p r) ∙ ap (λ x. run d k (move d p) ++ (edge x d ∷ [])) (far-first d k p (room-less d (suc k) p r)))
+
+pub room-one : (d k p : ℕ) → Room d (suc k) p → Room d 1 p
+unfolding Room
+room-one zero k p r = omega arith
+room-one (suc zero) k p r = omega arith
+room-one (suc (suc zero)) k p r = omega arith
+room-one (suc (suc (suc d))) k p r = r

@@ -3,7 +3,7 @@ use mathlib.Core.Path.{_≡_, refl, sym, ap, _∙_, subst}
 use mathlib.Core.Logic.{_≢_, _⊎_, inl, inr}
 use mathlib.Core.List.{List, [], _∷_, _++_, flatMap}
 use Prim.Native.Nat.{ℕ, zero, suc, _+_, _-_, _≤_, _<_}
-use native.Mathlib.Decide.{decLe, decLt}
+use native.Mathlib.Decide.{ℕ-discrete, decLe, decLt}
 use native.Mathlib.Omega.{arith}
 use lib.ListN.{length, getD, length-append, List·getD-append}
 use lib.Seq.{getD-append-add}
@@ -33,6 +33,24 @@ in-cases a x l (suc i, h, e) = inr (i, omega arith, e)
 
 pub in-none : {A : Type 0} (a : ℕ) → In a [] → A
 in-none a (i, h, e) = let z : ⊥ = omega arith in absurd z
+
+pub in-single : (a x : ℕ) → In a (x ∷ []) → a ≡ x
+in-single a x (zero, h, e) = sym e
+in-single a x (suc i, h, e) = let z : ⊥ = omega arith in absurd z
+
+-- Whether a number stands in a list.
+pub in-dec : (a : ℕ) (l : List ℕ) → Dec (In a l)
+in-dec a [] = no (λ i. in-none a i)
+in-dec a (x ∷ l) = pick (ℕ-discrete a x) (in-dec a l)
+  where
+    neither : a ≢ x → (In a l → ⊥) → (a ≡ x) ⊎ In a l → ⊥
+    neither f g (inl e) = f e
+    neither f g (inr i) = g i
+
+    pick : Dec (a ≡ x) → Dec (In a l) → Dec (In a (x ∷ l))
+    pick (yes e) d = yes (0, omega arith, sym e)
+    pick (no e) (yes i) = yes (in-later a x l i)
+    pick (no e) (no i) = no (λ k. neither e i (in-cases a x l k))
 
 pub in-left : (a : ℕ) (xs ys : List ℕ) → In a xs → In a (xs ++ ys)
 in-left a xs ys (i, h, e) = (i, omega (arith, length-append xs ys), List·getD-append xs ys 0 i h ∙ e)

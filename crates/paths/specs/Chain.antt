@@ -1,17 +1,16 @@
 -- The chain code of one cycle form: "one byte 48 plus digit for each unit edge, from the first corner" (document 01, "Path,
 -- chain and picture").
 use mathlib.Core.Path.{_≡_, refl, sym, ap, ap₂, _∙_}
-use mathlib.Core.Bool.{Bool, true, false}
+use mathlib.Core.Bool.{true}
 use mathlib.Core.List.{List, [], _∷_, _++_, map, append-nil}
-use Prim.Native.Nat.{ℕ, zero, suc, _+_, _-_, _*_, _%_, _≤_, _<_}
-use native.Mathlib.Decide.{decLt}
+use Prim.Native.Nat.{ℕ, zero, suc, _+_, _-_, _*_, _≤_, _<_}
 use native.Mathlib.Numerals.{add-one}
 use native.Mathlib.Omega.{arith}
-use lib.ListN.{length, getD, drop, replicate, length-append, length-map, drop-of-length-le, List·getD-eq-default}
+use lib.ListN.{length, getD, drop, replicate, length-append, length-map, drop-of-length-le}
 use lib.Seq.{drop-cons}
 use borrow.Rule.Slice.PartMut.{midOf, putMid}
 use Rattle.lattice.specs.Tests.{then-both}
-use Rattle.lattice.specs.Directions.{digit, edge, move}
+use Rattle.lattice.specs.Directions.{digit, move}
 use Rattle.lattice.specs.Walks.{run, straight, walkFrom, outline}
 use Rattle.lattice.specs.CycleForm.{inside, allInside, cycleForm, parts, after, all-inside-at}
 use Rattle.lattice.specs.Legs.{heading, distance, straight-is, heading-below, distance-most}
@@ -128,8 +127,14 @@ length-onward close [] hc h = omega arith
 length-onward close (p ∷ ps) hc h =
     let b = then-both (inside p) (allInside ps) h in
     let q = getD ps 0 close in
-    omega (arith, ap length (onward-list close p ps), length-append (straight p q) (onward close ps), length-straight p q,
-      distance-most p q (b .0) (head-inside close ps hc (b .1)), length-onward close ps hc (b .1))
+    omega (
+      arith,
+      ap length (onward-list close p ps),
+      length-append (straight p q) (onward close ps),
+      length-straight p q,
+      distance-most p q (b .0) (head-inside close ps hc (b .1)),
+      length-onward close ps hc (b .1),
+    )
 
 pub edges-most : (cs : List ℕ) → 0 < length cs → allInside cs ≡ true → length (outline cs) ≤ 256 * length cs
 unfolding wayFrom

@@ -1,18 +1,19 @@
 -- The form of a chain (cause 17): "bytes 48 to 51 only, start and every point within 0 to 256, closed, first digit 0, last
 -- digit 1 or 3, no digit followed by its opposite, at most 262,144 corners" (document 01).
-use mathlib.Core.Path.{_≡_, refl, sym, ap, _∙_}
-use mathlib.Core.Logic.{_≢_, _↔_, _⊎_, inl, inr}
+use mathlib.Core.Path.{_≡_}
+use mathlib.Core.Logic.{_≢_, _⊎_}
 use mathlib.Core.Bool.{Bool, true, false, not, cond, _&&_, _||_}
 use mathlib.Core.List.{List, [], _∷_}
 use Prim.Native.Nat.{ℕ, zero, suc, _+_, _-_, _≤_, _<_}
-use native.Mathlib.Omega.{arith}
 use lib.Dec.{eqb, leb, ltb}
 use lib.ListN.{length, getD}
-use borrow.Author.Tests.{eq-eqb, ne-eqb, eqb-true, eqb-false, leb-true, le-leb, ltb-true, lt-ltb}
-use Rattle.lattice.specs.Tests.{and-both, and-true-true, then-both, not-flips}
+use borrow.Author.Tests.{leb-true, le-leb}
+use Rattle.lattice.specs.Tests.{and-both}
 use Rattle.lattice.specs.Directions.{xOf, yOf, move, opposite, edge}
 use Rattle.lattice.specs.Walks.{corners, lastOf}
-use Rattle.lattice.specs.CycleForm.{inside, inside-says, says-inside}
+use Rattle.lattice.specs.CycleForm.{inside}
+use Rattle.paths.specs.Answers.{Writes, numberOf}
+use Rattle.paths.specs.declared.Written.{Written}
 
 -- The digit of a byte.
 unfoldable pub digitOf : ℕ → ℕ
@@ -67,6 +68,14 @@ cornersOf start bs = corners (walk start bs)
 unfoldable pub chainForm : ℕ → List ℕ → Bool
 chainForm start bs = inside start && (firstEast bs && (lastAcross bs && (closes start bs && leb (length (cornersOf start bs)) 262144)))
 
+-- "Chain corners, their number" (document 01, needs).
+unfoldable pub readNumber : ℕ → List ℕ → List ℕ → ℕ
+readNumber start bs list = numberOf 17 (chainForm start bs) (length (cornersOf start bs)) (length list)
+
+-- What the reader promises of the start, the bytes, the corner list before and after, and the answer.
+abbrev pub ChainRead : ℕ → List ℕ → List ℕ → List ℕ → Written → Type 0
+ChainRead start bs list list′ answer = Writes (readNumber start bs list) (cornersOf start bs) list list′ answer
+
 -- The same, in words about each byte. The point after i bytes:
 unfoldable pub pointAt : ℕ → List ℕ → ℕ → ℕ
 pointAt p bs zero = p
@@ -87,3 +96,25 @@ pub record ChainForm (start : ℕ) (bs : List ℕ) : Type 0 where
 -- How many corners a chain gives, 0 if it has not the form: the number by which the code knows it.
 unfoldable pub cornerCount : ℕ → List ℕ → ℕ
 cornerCount start bs = cond (chainForm start bs) (length (cornersOf start bs)) 0
+
+-- What the test says, each part by itself.
+pub record ChainParts (start : ℕ) (bs : List ℕ) : Type 0 where
+  pub within : inside start ≡ true
+  pub first : firstEast bs ≡ true
+  pub across : lastAcross bs ≡ true
+  pub closing : closes start bs ≡ true
+  pub most : length (cornersOf start bs) ≤ 262144
+
+pub chain-parts : (start : ℕ) (bs : List ℕ) → chainForm start bs ≡ true → ChainParts start bs
+unfolding chainForm
+chain-parts start bs h =
+    let few = leb (length (cornersOf start bs)) 262144 in
+    let a = and-both (inside start) (firstEast bs && (lastAcross bs && (closes start bs && few))) h in
+    let b = and-both (firstEast bs) (lastAcross bs && (closes start bs && few)) (a .1) in
+    let c = and-both (lastAcross bs) (closes start bs && few) (b .1) in
+    let d = and-both (closes start bs) few (c .1) in
+    record { within = a .0; first = b .0; across = c .0; closing = d .0; most = leb-true (length (cornersOf start bs)) 262144 (d .1) }
+
+pub from-chain-parts : (start : ℕ) (bs : List ℕ) → ChainParts start bs → chainForm start bs ≡ true
+unfolding chainForm
+from-chain-parts start bs p = simp (p .within, p .first, p .across, p .closing, le-leb (length (cornersOf start bs)) 262144 (p .most))

@@ -10,3 +10,8 @@ pub mod Chain
 pub mod ChainForm
 pub mod Reading
 pub mod Counting
+pub mod ChainTest
+pub mod FormToChain
+pub mod ChainToForm
+pub mod RoundTrip
+pub mod Dial

@@ -1,18 +1,18 @@
 -- A chain followed byte after byte: the point, the digit before and the corners met so far, and what is left.
-use mathlib.Core.Path.{_≡_, refl, sym, ap, ap₂, _∙_, subst}
+use mathlib.Core.Path.{_≡_, refl, sym, ap, ap₂, _∙_}
 use mathlib.Core.Logic.{_≢_}
 use mathlib.Core.Bool.{Bool, true, false, not, cond, _&&_}
 use mathlib.Core.List.{List, [], _∷_}
-use Prim.Native.Nat.{ℕ, zero, suc, _+_, _-_, _*_, _/_, _%_, _≤_, _<_}
+use Prim.Native.Nat.{ℕ, zero, suc, _+_, _-_, _≤_, _<_}
 use native.Mathlib.Decide.{ℕ-discrete}
 use native.Mathlib.Numerals.{add-one}
 use native.Mathlib.Omega.{arith}
-use lib.Dec.{eqb, leb, ltb}
+use lib.Dec.{eqb, leb}
 use lib.ListN.{length, getD, drop, set, drop-of-length-le}
 use lib.Seq.{drop-cons}
-use borrow.Author.Tests.{eq-eqb, ne-eqb, eqb-false, leb-true, ltb-true}
-use Rattle.lattice.specs.Tests.{and-both, then-both, not-flips}
-use Rattle.lattice.specs.Directions.{xOf, yOf, move, rightOf, opposite, edge, tail, digit}
+use borrow.Author.Tests.{eq-eqb, ne-eqb, eqb-false, leb-true, le-leb, ltb-true}
+use Rattle.lattice.specs.Tests.{and-both, and-true-true, then-both, not-flips}
+use Rattle.lattice.specs.Directions.{xOf, yOf, move, rightOf, opposite, edge}
 use Rattle.lattice.specs.Walks.{turns}
 use Rattle.lattice.specs.Corners.{turns-on, turns-turn}
 use Rattle.lattice.specs.Outlines.{tail-edge, digit-edge}
@@ -49,6 +49,13 @@ allowed-says d p b h =
       onward = eqb-false (digitOf b) (opposite d) (not-flips (eqb (digitOf b) (opposite d)) (z .0));
       stays = z .1;
     }
+
+pub says-allowed : (d p b : ℕ) → Allowed d p b → allowed d p b ≡ true
+unfolding allowed isDigit
+says-allowed d p b a =
+    and-true-true (leb 48 b && leb b 51) (not (eqb (digitOf b) (opposite d)) && free (digitOf b) p)
+    (and-true-true (leb 48 b) (leb b 51) (le-leb 48 b (a .low)) (le-leb b 51 (a .high)))
+    (and-true-true (not (eqb (digitOf b) (opposite d))) (free (digitOf b) p) (ap not (ne-eqb (digitOf b) (opposite d) (a .onward))) (a .stays))
 
 pub digit-below : {d p b : ℕ} → Allowed d p b → digitOf b < 4
 unfolding digitOf
@@ -148,8 +155,10 @@ module _ {last start : ℕ} {bs : List ℕ} {i p d n : ℕ} (f : Following last 
     where
       a : Allowed d p (getD bs i 0)
       a = allowed-says d p (getD bs i 0) h
+
       e′ : ℕ
       e′ = digitOf (getD bs i 0)
+
       made : k ≤ 1 → n + k + length (turns e′ (walk (move e′ p) (drop (i + 1) bs))) ≡ length (turns last (walk start bs))
           → Following last start bs (i + 1) (move e′ p) e′ (n + k)
       made m t =
@@ -161,6 +170,7 @@ module _ {last start : ℕ} {bs : List ℕ} {i p d n : ℕ} (f : Following last 
             way = leads-on bs i d p start l h ∙ f .way;
             met = t;
           }
+
       pick : Dec (d ≡ e′) → Following last start bs (i + 1) (move e′ p) e′ (n + k)
       pick (yes s) =
           let z : k ≡ 0 = c ∙ ap (λ (b : Bool). cond b 0 1) (eq-eqb d e′ s) in
@@ -218,8 +228,10 @@ module _ {last start : ℕ} {bs old now : List ℕ} {i p d at : ℕ} (g : Drawin
     where
       a : Allowed d p (getD bs i 0)
       a = allowed-says d p (getD bs i 0) draws
+
       e′ : ℕ
       e′ = digitOf (getD bs i 0)
+
       made : Underway (turns last (walk start bs)) (turns e′ (walk (move e′ p) (drop (i + 1) bs))) old now′ at′ → Drawing last start bs old now′ (i + 1) (move e′ p) e′ at′
       made u =
           record {
@@ -229,6 +241,7 @@ module _ {last start : ℕ} {bs old now : List ℕ} {i p d at : ℕ} (g : Drawin
             way = leads-on bs i d p start l draws ∙ g .way;
             list = u;
           }
+
       pick : Dec (d ≡ e′) → Drawing last start bs old now′ (i + 1) (move e′ p) e′ at′
       pick (yes s) =
           let x : at′ ≡ at = c ∙ ap (λ (b : Bool). cond b at (at + 1)) (eq-eqb d e′ s) in

@@ -1,8 +1,8 @@
 -- SVG path data of one cycle form: "M, x, one space, y of the first corner, then H with x and V with y by turns for the
 -- later corners, then Z. No other spaces, no leading zeros" (document 01, "Path, chain and picture").
-use mathlib.Core.Path.{_≡_, refl, sym, ap, _∙_}
-use mathlib.Core.Bool.{Bool, true, false}
-use mathlib.Core.List.{List, [], _∷_, _++_, append-nil, append-assoc}
+use mathlib.Core.Path.{_≡_, refl}
+use mathlib.Core.Bool.{true, false}
+use mathlib.Core.List.{List, [], _∷_, _++_}
 use Prim.Native.Nat.{ℕ, zero, suc, _+_, _-_, _*_, _%_, _≤_, _<_}
 use native.Mathlib.Decide.{ℕ-discrete}
 use native.Mathlib.Omega.{arith}
@@ -64,8 +64,10 @@ word-length i c h = pick (ℕ-discrete i 0) (ℕ-discrete (i % 2) 0)
   where
     xs : length (decimal (xOf c)) ≤ 3
     xs = decimal-length (xOf c) (omega (arith, inside-says c h .0))
+
     ys : length (decimal (yOf c)) ≤ 3
     ys = decimal-length (yOf c) (omega (arith, inside-says c h .1))
+
     pick : Dec (i ≡ 0) → Dec (i % 2 ≡ 0) → (length (word i c) ≤ 8) × (0 < i → length (word i c) ≤ 4)
     pick (yes z) e = rw (word-first i c z) (omega (arith, length-append (77 ∷ decimal (xOf c)) (32 ∷ decimal (yOf c)), xs, ys), λ p. absurd (omega arith))
     pick (no n) (yes e) = rw (word-even i c n e) (omega (arith, ys), λ p. omega (arith, ys))

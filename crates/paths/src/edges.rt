@@ -1,9 +1,9 @@
 // The chain code of one cycle form: the unit edges from each corner to the next.
 ghost use mathlib.Core.Path.{_≡_};
 ghost use mathlib.Core.Bool.{true};
-ghost use Prim.Native.Nat.{_+_, _<_, _≤_};
+ghost use Prim.Native.Nat.{_<_, _≤_};
 ghost use lib.ListN.{length};
-ghost use Rattle.lattice.specs.CycleForm.{inside, allInside, after};
+ghost use Rattle.lattice.specs.CycleForm.{allInside, after};
 ghost use Rattle.lattice.specs.Legs.{heading, distance};
 ghost use Rattle.lattice.specs.Walks.{straight, outline};
 ghost use Rattle.paths.specs.Answers.{Put};

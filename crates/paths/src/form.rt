@@ -1,7 +1,7 @@
 // The test of cycle form (cause 16).
 ghost use mathlib.Core.Path.{_≡_};
-ghost use Prim.Native.Nat.{_+_, _<_, _≤_};
-ghost use lib.ListN.{length, getD};
+ghost use Prim.Native.Nat.{_<_};
+ghost use lib.ListN.{length};
 ghost use Rattle.lattice.specs.CycleForm.{inside, allInside, along, steps, cycleForm};
 
 // Coordinates at most 256.

@@ -1,9 +1,10 @@
 // One outline as SVG path data and as a chain code, a chain code read back, and the stretch of one cycle's corners
 // (document 01, "Path, chain and picture").
 ghost use mathlib.Core.Path.{_≡_};
-ghost use Prim.Native.Nat.{_+_, _*_, _<_};
+ghost use Prim.Native.Nat.{_<_};
 ghost use lib.ListN.{length};
 ghost use Rattle.paths.specs.Chain.{ChainWritten};
+ghost use Rattle.paths.specs.ChainForm.{ChainRead};
 ghost use Rattle.paths.specs.Stretch.{Place, Part, beginOf};
 ghost use Rattle.paths.specs.Svg.{Svg};
 
@@ -62,6 +63,32 @@ pub fn chain(corners: &[u32], bytes: &mut [u8]) -> Written
     Written {
         number: 0,
         count: n as u32,
+    }
+}
+
+// The corners of a chain from the start corner: 17, then 8 with the need of their number. All bytes are looked at before
+// anything is written.
+pub fn read_chain(start: u32, bytes: &[u8], corners: &mut [u32]) -> Written
+    ensures { λ r. ⌜ ChainRead start (now (bytes .entry)) (now (corners .entry)) (now (corners .exit)) r ⌝ }
+{
+    let n = reading::count(start, bytes);
+    if n == 0 {
+        return Written {
+            number: 17,
+            count: 0,
+        };
+    }
+    if corners.len() < n {
+        return Written {
+            number: 8,
+            count: 0,
+        };
+    }
+    let last = bytes[bytes.len() - 1] - 48;
+    let k = reading::write(start, bytes, last, corners);
+    Written {
+        number: 0,
+        count: k as u32,
     }
 }
 

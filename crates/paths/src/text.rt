@@ -7,7 +7,7 @@ ghost use lib.ListN.{length};
 ghost use Rattle.lattice.specs.CycleForm.{inside, allInside};
 ghost use Rattle.paths.specs.Answers.{Put};
 ghost use Rattle.paths.specs.Decimal.{decimal};
-ghost use Rattle.paths.specs.Svg.{word, pathData, svgNeed};
+ghost use Rattle.paths.specs.Svg.{word, pathData};
 
 // A letter and the digits of v.
 fn put_number(text: &mut [u8], letter: u8, v: u32) -> usize

@@ -85,7 +85,7 @@ made-accepted : {bytes raster : List ℕ} {n w h m : ℕ} → File bytes (record
 made-accepted {bytes} {raster} {n} {w} {h} {m} x power equal side low high full each =
     record {
       file = subst⁻¹ (λ (a : ℕ). File bytes (record { width = a; height = 2 ^ n; maxval = m }) raster) power
-      (subst⁻¹ (λ (b : ℕ). File bytes (record { width = w; height = b; maxval = m }) raster) (power ∙ equal) x);
+          (subst⁻¹ (λ (b : ℕ). File bytes (record { width = w; height = b; maxval = m }) raster) (power ∙ equal) x);
       side = side;
       low = low;
       high = high;
@@ -145,6 +145,7 @@ accepted-or-refused bytes = go (header bytes) refl
         let (least, most) = judged-refused raster f k e in
         inr (record { number = k; least = omega arith; most = most; says = file-answer bytes raster f x ∙ sym (said-refused bytes (judged f raster) k e) })
     judge f raster x (got g rest) e = inl (record { n = _; maxval = _; raster = raster; accepted = passed-accepted bytes raster rest f g x e })
+
     go : (p : Parsed Fields) → header bytes ≡ p → Passed bytes ⊎ Refused bytes
     go (refused k) e =
         let ten = header-10 bytes k e in

@@ -1,8 +1,8 @@
 -- Laws for callers: what the two promises say of an accepted picture and of a refused one.
 use mathlib.Core.Path.{_≡_, refl, sym, ap, _∙_}
-use mathlib.Core.Logic.{⊎-elim}
+use mathlib.Core.Logic.{_↔_, ⊎-elim}
 use mathlib.Core.List.{List, []}
-use Prim.Native.Nat.{ℕ, _+_, _^_, _≤_, _<_}
+use Prim.Native.Nat.{ℕ, _+_, _-_, _^_, _≤_, _<_}
 use native.Mathlib.Omega.{arith}
 use denote.Ref.{RefT, now}
 use lib.ListN.{length, take, drop, getD, length-take, length-drop}
@@ -14,15 +14,29 @@ use Rattle.pgm.specs.Accepted.{Accepted, Passed, Refused, accepted-answe
 use Rattle.pgm.specs.declared.Picture.{Picture}
 
 module _ (bytes : List ℕ) where
+  passed-answer : (p : Passed bytes)
+      → _≡_ {A = Picture} (answer bytes) (record { number = 0; n = p .n; maxval = p .maxval; start = length bytes - length (p .raster); length = length (p .raster) })
+  passed-answer p = accepted-answer bytes (p .raster) (p .n) (p .maxval) (p .accepted)
+
+  passed-stretch : (p : Passed bytes) → stretch bytes ≡ p .raster
+  passed-stretch p = accepted-stretch bytes (p .raster) (p .n) (p .maxval) (p .accepted)
+
   -- Number 0 is said of accepted pictures alone.
   pub zero-accepted : answer bytes .number ≡ 0 → Accepted bytes (answer bytes .n) (answer bytes .maxval) (stretch bytes)
   unfolding refusal
   zero-accepted z = ⊎-elim passed refused (accepted-or-refused bytes)
     where
       passed : Passed bytes → Accepted bytes (answer bytes .n) (answer bytes .maxval) (stretch bytes)
-      passed p = rw (accepted-answer bytes (p .raster) (p .n) (p .maxval) (p .accepted), accepted-stretch bytes (p .raster) (p .n) (p .maxval) (p .accepted)) (p .accepted)
+      passed p = rw (passed-answer p, passed-stretch p) (p .accepted)
+
       refused : Refused bytes → Accepted bytes (answer bytes .n) (answer bytes .maxval) (stretch bytes)
       refused r = absurd (omega (arith, z, ap (λ (p : Picture). p .number) (r .says), r .least))
+
+  pub zero-exactly : answer bytes .number ≡ 0 ↔ Passed bytes
+  zero-exactly = (
+    λ z. record { n = answer bytes .n; maxval = answer bytes .maxval; raster = stretch bytes; accepted = zero-accepted z },
+    λ p. ap (λ (q : Picture). q .number) (passed-answer p),
+  )
 
   -- Any other number is a refusal by one of the causes 10 to 14: zeros, and the empty stretch at 0.
   pub refused-number : (answer bytes .number ≡ 0 → ⊥) → (10 ≤ answer bytes .number) × (answer bytes .number ≤ 14)
@@ -30,7 +44,8 @@ module _ (bytes : List ℕ) where
   refused-number d = ⊎-elim passed refused (accepted-or-refused bytes)
     where
       passed : Passed bytes → (10 ≤ answer bytes .number) × (answer bytes .number ≤ 14)
-      passed p = absurd (d (ap (λ (q : Picture). q .number) (accepted-answer bytes (p .raster) (p .n) (p .maxval) (p .accepted))))
+      passed p = absurd (d (ap (λ (q : Picture). q .number) (passed-answer p)))
+
       refused : Refused bytes → (10 ≤ answer bytes .number) × (answer bytes .number ≤ 14)
       refused r = rw (r .says) (r .least, r .most)
 
@@ -39,7 +54,8 @@ module _ (bytes : List ℕ) where
   refused-zeros d = ⊎-elim passed refused (accepted-or-refused bytes)
     where
       passed : Passed bytes → answer bytes ≡ refusal (answer bytes .number)
-      passed p = absurd (d (ap (λ (q : Picture). q .number) (accepted-answer bytes (p .raster) (p .n) (p .maxval) (p .accepted))))
+      passed p = absurd (d (ap (λ (q : Picture). q .number) (passed-answer p)))
+
       refused : Refused bytes → answer bytes ≡ refusal (answer bytes .number)
       refused r = rw (r .says) refl
 
@@ -54,8 +70,9 @@ module _ (bytes : List ℕ) where
     where
       passed : Passed bytes → answer bytes .start + answer bytes .length ≤ length bytes
       passed p =
-          rw (accepted-answer bytes (p .raster) (p .n) (p .maxval) (p .accepted))
+          rw (passed-answer p)
           (omega (arith, raster-short bytes (p .raster) _ (p .accepted .file)))
+
       refused : Refused bytes → answer bytes .start + answer bytes .length ≤ length bytes
       refused r = rw (r .says) (omega arith)
 
@@ -73,8 +90,9 @@ module _ (bytes : List ℕ) where
     where
       passed : Passed bytes → answer bytes .start + answer bytes .length ≡ length bytes
       passed p =
-          rw (accepted-answer bytes (p .raster) (p .n) (p .maxval) (p .accepted))
+          rw (passed-answer p)
           (omega (arith, raster-short bytes (p .raster) _ (p .accepted .file)))
+
       refused : Refused bytes → answer bytes .start + answer bytes .length ≡ length bytes
       refused r = absurd (omega (arith, z, ap (λ (p : Picture). p .number) (r .says), r .least))
 
@@ -89,7 +107,7 @@ module _ (bytes after : List ℕ) (r : Picture) (a : Answered bytes after r) whe
 
 -- What it says of an accepted picture: n at most 8, 4^n samples up to the end of the bytes, none above maxval.
 module _ (bytes after : List ℕ) (r : Picture) (a : Answered bytes after r) (z : r .number ≡ 0) where
-  accepted : Accepted bytes (r .n) (r .maxval) (stretch bytes)
+  pub accepted : Accepted bytes (r .n) (r .maxval) (stretch bytes)
   accepted = rw (a .answered) (zero-accepted bytes (ap (λ (p : Picture). p .number) (sym (a .answered)) ∙ z))
 
   pub side-at-most-8 : r .n ≤ 8
@@ -109,7 +127,7 @@ module _ (bytes after : List ℕ) (r : Picture) (a : Answered bytes after r) (z 
   samples-at-most-maxval i h =
       let long : length (stretch bytes) ≡ 4 ^ r .n = accepted .full ∙ square-of-side (r .n) in
       let e : getD bytes (r .start + i) 0 ≡ getD (stretch bytes) i 0 =
-          ap (λ (p : Picture). getD bytes (p .start + i) 0) (a .answered) ∙ sym (stretch-at bytes i (omega (arith, stretch-length bytes, long)))
+      ap (λ (p : Picture). getD bytes (p .start + i) 0) (a .answered) ∙ sym (stretch-at bytes i (omega (arith, stretch-length bytes, long)))
       in
       omega (arith, e, accepted .samples i (omega (arith, long)))
 

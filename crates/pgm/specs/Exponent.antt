@@ -56,6 +56,7 @@ from-finds (suc left) n k l h = pick (eqb (2 ^ n) (2 ^ k)) refl (from-finds left
   where
     same : 2 ^ n ≡ 2 ^ k → n ≡ k
     same e = elim (decLt n k) [ yes b ↦ absurd (omega (arith, grows n k b)) | no d ↦ omega arith ]
+
     pick : (t : Bool) → eqb (2 ^ n) (2 ^ k) ≡ t → (n + 1 ≤ k → k < n + 1 + left → exponentFrom left (n + 1) (2 ^ k) ≡ k)
         → exponentFrom (suc left) n (2 ^ k) ≡ k
     pick true e more = let p = eqb-true (2 ^ n) (2 ^ k) e in from-here left n (2 ^ k) p ∙ same p

@@ -33,7 +33,7 @@ unfolding next
 next-on e then = ap (λ q. next q then) e
 
 -- One byte.
-pub byte-taken : (test : ℕ → Bool) (bytes : List ℕ) (rest : List ℕ) → byte test bytes ≡ got tt rest → (b : ℕ) × (test b ≡ true) × (bytes ≡ b ∷ rest)
+pub byte-taken : (test : ℕ → Bool) (bytes rest : List ℕ) → byte test bytes ≡ got tt rest → (b : ℕ) × (test b ≡ true) × (bytes ≡ b ∷ rest)
 unfolding byte
 byte-taken test [] rest e = absurd (not-got e)
 byte-taken test (b ∷ bytes) rest e = pick (test b) refl e

@@ -54,6 +54,6 @@ module _ (bytes : List ℕ) where
 
   pub number-long : 5 < length (digits bytes) → number bytes ≡ bad
   unfolding number
-  number-long long = 
-    let some : 1 ≤ length (digits bytes) = omega arith in
-    rw (le-leb 1 (length (digits bytes)) some, lt-leb (length (digits bytes)) 5 long, number) refl
+  number-long long =
+      let some : 1 ≤ length (digits bytes) = omega arith in
+      rw (le-leb 1 (length (digits bytes)) some, lt-leb (length (digits bytes)) 5 long, number) refl

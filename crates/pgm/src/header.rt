@@ -5,7 +5,6 @@ use crate::space;
 use crate::step;
 use crate::step::Cursor;
 use crate::step::Past;
-
 ghost use lib.ListN.{drop};
 ghost use Rattle.pgm.specs.Header.{magic, field, header};
 ghost use Rattle.pgm.specs.Steps.{Passes, Numbers, Heads};

@@ -6,7 +6,6 @@ mod space;
 mod step;
 
 use header::Header;
-
 ghost use mathlib.Core.Path.{_≡_};
 ghost use Prim.Native.Nat.{_≤_};
 ghost use lib.ListN.{length, drop};

@@ -1,6 +1,5 @@
 // Numbers of a header: 1 to 5 decimal digits.
 use crate::step::Cursor;
-
 ghost use mathlib.Core.Path.{_≡_};
 ghost use Prim.Native.Nat.{_≤_};
 ghost use lib.ListN.{length, drop};

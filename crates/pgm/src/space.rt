@@ -1,7 +1,6 @@
 // White space, in one place.
 use crate::step::Cursor;
 use crate::step::Past;
-
 ghost use mathlib.Core.Path.{_≡_};
 ghost use Prim.Native.Nat.{_≤_};
 ghost use lib.ListN.{length, drop};

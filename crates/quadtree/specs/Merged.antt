@@ -47,11 +47,11 @@ module _ (n : ℕ) (px : List ℕ) where
       let a3 = add-mul (q * 4) 3 (4 ^ m) in
       let s0 : mergedFrom n px c ≡ quadrant px m c ++ mergedFrom n px (c + w) = ih (q * 4) c (omega arith) e0 (omega arith) s in
       let s1 : mergedFrom n px (c + w) ≡ quadrant px m (c + w) ++ mergedFrom n px (c + w + w) =
-        later m ih q 1 (c + w) (omega arith) (omega arith) (omega arith) (omega (arith, e0, a1)) (omega arith) in
+      later m ih q 1 (c + w) (omega arith) (omega arith) (omega arith) (omega (arith, e0, a1)) (omega arith) in
       let s2 : mergedFrom n px (c + w + w) ≡ quadrant px m (c + w + w) ++ mergedFrom n px (c + w + w + w) =
-        later m ih q 2 (c + w + w) (omega arith) (omega arith) (omega arith) (omega (arith, e0, a2)) (omega arith) in
+      later m ih q 2 (c + w + w) (omega arith) (omega arith) (omega arith) (omega (arith, e0, a2)) (omega arith) in
       let s3 : mergedFrom n px (c + w + w + w) ≡ quadrant px m (c + w + w + w) ++ mergedFrom n px (c + w + w + w + w) =
-        later m ih q 3 (c + w + w + w) (omega arith) (omega arith) (omega arith) (omega (arith, e0, a3)) (omega arith) in
+      later m ih q 3 (c + w + w + w) (omega arith) (omega arith) (omega arith) (omega (arith, e0, a3)) (omega arith) in
       let end : c + w + w + w + w ≡ c + 4 ^ suc m = omega arith in
       s0
       ∙ ap (λ (t : List Block). quadrant px m c ++ t)

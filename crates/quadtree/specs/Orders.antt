@@ -59,12 +59,12 @@ pub rows-after-code-order : (n : ℕ) (raster : List ℕ) → length raster ≡ 
 unfolding inRows
 rows-after-code-order n raster long =
     sym (tabulate-from (4 ^ n) (λ i. getD (inCodeOrder n raster) (code n (i % 2 ^ n) (i / 2 ^ n)) 0) raster long (λ i h.
-      sym (in-code-order-at n raster (code n (i % 2 ^ n) (i / 2 ^ n)) (code-below n (i % 2 ^ n) (i / 2 ^ n))
-      ∙ ap (λ (j : ℕ). getD raster j 0) (place-of-pixel n i h))))
+    sym (in-code-order-at n raster (code n (i % 2 ^ n) (i / 2 ^ n)) (code-below n (i % 2 ^ n) (i / 2 ^ n))
+    ∙ ap (λ (j : ℕ). getD raster j 0) (place-of-pixel n i h))))
 
 -- Code order, after row by row.
 pub code-order-after-rows : (n : ℕ) (px : List ℕ) → length px ≡ 4 ^ n → inCodeOrder n (inRows n px) ≡ px
 unfolding inCodeOrder
 code-order-after-rows n px long =
     sym (tabulate-from (4 ^ n) (λ c. getD (inRows n px) (place n c) 0) px long (λ c h.
-      sym (in-rows-at n px (place n c) (place-in n c) ∙ ap (λ (d : ℕ). getD px d 0) (code-of-place n c h))))
+    sym (in-rows-at n px (place n c) (place-in n c) ∙ ap (λ (d : ℕ). getD px d 0) (code-of-place n c h))))

@@ -44,6 +44,14 @@ below-grows r j (suc k) h = pick (below-grows r j k) (eq-or-lt-of-le h) (ℕ-dis
     pick ih (inr l) (yes y) = omega (arith, ih (omega arith), below-yes r k y)
     pick ih (inr l) (no n) = omega (arith, ih (omega arith), below-no r k n)
 
+pub below-most : (r : ℕ → ℕ) (k : ℕ) → below r k ≤ k
+below-most r zero = omega (arith, below-none r)
+below-most r (suc k) = pick (below-most r k) (ℕ-discrete (r k) k)
+  where
+    pick : below r k ≤ k → Dec (r k ≡ k) → below r (suc k) ≤ suc k
+    pick ih (yes y) = omega (arith, below-yes r k y)
+    pick ih (no n) = omega (arith, below-no r k n)
+
 pub below-less : (r : ℕ → ℕ) (j k : ℕ) → r j ≡ j → j < k → below r j < below r k
 below-less r j k h l = omega (arith, below-yes r j h, below-grows r (suc j) k l)
 

@@ -8,7 +8,7 @@ use native.Mathlib.Omega.{arith}
 use lib.ListN.{length, getD, set, length-set}
 use lib.Seq.{getD-set-same, getD-set-other}
 use Rattle.sequences.specs.Induction.{strong}
-use Rattle.unions.specs.Roots.{parent, Low, root, read-parent, parent-le, low-of, root-of-top, root-of-parent, root-le}
+use Rattle.unions.specs.Roots.{parent, Low, root, read-parent, parent-le, low-of, root-of-top, root-of-parent}
 
 -- A place hung below another, smaller one of the same root.
 module _ (p : List ℕ) (low : Low p) (at q : ℕ) (inside : at < length p) (less : q < at) (same : root p q ≡ root p at) where
@@ -24,10 +24,10 @@ module _ (p : List ℕ) (low : Low p) (at q : ℕ) (inside : at < length p) (les
   low-shortened =
       low-of (set p at q)
       (λ i.
-        elim (ℕ-discrete i at) [
-          | yes e ↦ subst (λ x. parent (set p at q) x ≤ x) (sym e) (omega (arith, parent-here))
-          | no n ↦ omega (arith, parent-elsewhere i n, parent-le p low i)
-        ])
+      elim (ℕ-discrete i at) [
+        | yes e ↦ subst (λ x. parent (set p at q) x ≤ x) (sym e) (omega (arith, parent-here))
+        | no n ↦ omega (arith, parent-elsewhere i n, parent-le p low i)
+      ])
 
   pub root-shortened : root (set p at q) ≡ root p
   root-shortened = fun-ext (strong (λ i. root (set p at q) i ≡ root p i) again)

@@ -1,7 +1,7 @@
 -- Parents turned into numbers in place, in one pass from the front.
 use mathlib.Core.Path.{_≡_, refl, sym, ap, _∙_}
 use mathlib.Core.Logic.{_≢_}
-use mathlib.Core.Bool.{Bool, true, false, cond}
+use mathlib.Core.Bool.{Bool, cond}
 use mathlib.Core.List.{List, [], _∷_, _++_, append-assoc, append-nil}
 use Prim.Native.Nat.{ℕ, zero, suc, _+_, _≤_, _<_}
 use native.Mathlib.Numerals.{add-one}
@@ -114,6 +114,6 @@ pub finish : {p₀ p : List ℕ} {next i : ℕ} → Numbering p₀ p next i → 
 finish {p₀} {p} {next} {i} g h =
     let e : i ≡ length p₀ = omega (arith, g .place) in (
       g .list ∙ ap (λ (t : List ℕ). numbersBelow (root p₀) i ++ t) (drop-of-length-le p₀ h) ∙ append-nil (numbersBelow (root p₀) i)
-      ∙ ap (numbersBelow (root p₀)) e,
+          ∙ ap (numbersBelow (root p₀)) e,
       g .count ∙ ap (below (root p₀)) e,
     )

@@ -1,14 +1,11 @@
 -- Before any join each place is its own parent: the list 0, 1, 2, .. stored from the front.
 use mathlib.Core.Path.{_≡_, refl, sym, ap, _∙_}
 use mathlib.Core.List.{List, [], _∷_, _++_, append-nil}
-use Prim.Native.Nat.{ℕ, zero, suc, _+_, _≤_, _<_}
+use Prim.Native.Nat.{ℕ, _+_, _≤_, _<_}
 use native.Mathlib.Omega.{arith}
-use lib.ListN.{length, drop, set, drop-of-length-le}
+use lib.ListN.{length, set, drop-of-length-le}
 use Rattle.sequences.specs.Over.{over, over-none, over-push, length-over}
 use Rattle.sequences.specs.Ranges.{range, length-range, range-append}
-use Rattle.unions.specs.Pairs.{Pair}
-use Rattle.unions.specs.Representatives.{rep}
-use Rattle.unions.specs.Roots.{Low, root, range-low, range-roots}
 
 -- The first i places of p₀ are their own parents.
 pub record OwnParents (p₀ p : List ℕ) (i : ℕ) : Type 0 where

@@ -9,7 +9,7 @@ use native.Mathlib.Decide.{ℕ-discrete, decLe}
 use native.Mathlib.Omega.{arith}
 use lib.Dec.{eqb}
 use borrow.Author.Tests.{eq-eqb, ne-eqb}
-use Rattle.unions.specs.Pairs.{Pair, Linked, same, pair, symmetric, transitive, linked-more}
+use Rattle.unions.specs.Pairs.{Pair, pairOf, Linked, same, pair, symmetric, transitive, linked-more}
 
 -- The representative r after b was merged into a.
 unfoldable pub merge : ℕ → ℕ → ℕ → ℕ
@@ -40,6 +40,11 @@ unfoldable pub rep : List Pair → ℕ → ℕ
 unfolding joinAt
 rep [] i = i
 rep (e ∷ es) i = joinAt (rep es) e i
+
+-- Of 0, 1 and 2 in one class, 0 represents 2.
+least-of-three : rep (pairOf 0 1 ∷ pairOf 1 2 ∷ []) 2 ≡ 0
+unfolding rep
+least-of-three = refl
 
 -- ---- one pair more
 

@@ -1,3 +1,4 @@
+-- The end of the cycle before, and 0 for the first.
 use mathlib.Core.Path.{sym}
 use Prim.Native.Nat.{_-_}
 use native.Mathlib.Omega.{arith}
@@ -5,30 +6,22 @@ use Rattle.paths.specs.Stretch.{begin-first, begin-later}
 use borrow.Author.Needs.{needs}
 use Rattle.paths.proofs.begin.Statement.{statement}
 use Rattle.paths.proofs.begin.Tie as tie
-use Rattle.paths.proofs.begin.Reads as reads
-use Rattle.paths.proofs.begin.Lts as lts
 
--- src/lib.rt:55:9
 returns : tie.Need-returns
 returns c = sym (begin-first (c .before .args .ends .now) (c .before .args .k) (c .if1 .taken))
 
--- src/lib.rt:57:10
 sub-result : tie.Need-sub-result
 sub-result c = search needs
 
--- src/lib.rt:57:5
 mul-result : tie.Need-mul-result
 mul-result c = search needs
 
--- src/lib.rt:57:5
 shared-slice-read-result : tie.Need-shared-slice-read-result
 shared-slice-read-result c = search needs
 
--- src/lib.rt:57:5
 cast-result : tie.Need-cast-result
 cast-result c = omega (arith, c .shared-slice-known .given (c .before .before .args .k - 1))
 
--- src/lib.rt:50:1
 returns-2 : tie.Need-returns-2
 returns-2 c = sym (begin-later (c .before .before .args .ends .now) (c .before .before .args .k) (c .before .if1 .left))
 

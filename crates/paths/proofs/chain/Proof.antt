@@ -1,6 +1,5 @@
-use mathlib.Core.Path.{_≡_, refl, sym, ap, _∙_}
-use mathlib.Core.Bool.{true}
-use Prim.Native.Nat.{_≤_, _<_, _+_, _*_}
+-- 16 where the corners are no cycle form, 8 where the list is shorter than the unit edges, else the bytes of the walk around.
+use mathlib.Core.Path.{refl, sym, _∙_}
 use native.Mathlib.Omega.{arith}
 use lib.ListN.{length}
 use borrow.Author.Tests.{not-true, not-false}
@@ -10,17 +9,10 @@ use Rattle.paths.specs.Chain.{chainNumber, chainNeed, chainOf, chain-fit
 use borrow.Author.Needs.{needs}
 use Rattle.paths.proofs.chain.Statement.{statement}
 use Rattle.paths.proofs.chain.Tie as tie
-use Rattle.paths.proofs.chain.Reads as reads
-use Rattle.paths.proofs.chain.Lts as lts
-use Rattle.paths.proofs.edges.count.Reads as count-reads
-use Rattle.paths.proofs.edges.write.Reads as write-reads
-use Rattle.paths.proofs.form.cycle_form.Reads as cycle-form-reads
 
--- src/lib.rt:48:9
 cycle-form-requires : tie.Need-cycle-form-requires
 cycle-form-requires c κs = search needs
 
--- src/lib.rt:49:9
 returns : tie.Need-returns
 unfolding chainNumber
 returns c =
@@ -29,7 +21,6 @@ returns c =
     refused (chainNumber (a .corners .now) (a .bytes .now)) 15 (chainOf (a .corners .now)) (a .bytes .now) _
     (no-form 16 (cycleForm (a .corners .now)) (chainNeed (a .corners .now)) (length (a .bytes .now)) f (omega arith)) refl refl
 
--- src/lib.rt:54:22
 count-requires : tie.Need-count-requires
 count-requires c κs =
     let a = c .before .before .before .before .args in
@@ -37,7 +28,6 @@ count-requires c κs =
     let p = parts (a .corners .now) f in
     (p .within, omega (arith, p .least), p .most)
 
--- src/lib.rt:55:9
 returns-2 : tie.Need-returns-2
 unfolding chainNumber chainNeed
 returns-2 c =
@@ -46,22 +36,18 @@ returns-2 c =
     refused (chainNumber (a .corners .now) (a .bytes .now)) 7 (chainOf (a .corners .now)) (a .bytes .now) _
     (too-short 16 (cycleForm (a .corners .now)) (chainNeed (a .corners .now)) (length (a .bytes .now)) f (omega (arith, c .if2 .taken, c .before .count .ensures))) refl refl
 
--- src/lib.rt:60:9
 write-requires : tie.Need-write-requires
 write-requires c κs = omega (arith, c .before .if2 .left, c .before .before .count .ensures)
 
--- src/lib.rt:63:16
 cast-t10 : tie.Need-cast-t10
 cast-t10 c =
     let a = c .before .before .before .before .before .before .before .before .before .before .args in
     let f = sym (c .before .before .before .before .before .before .before .cycle-form .ensures) ∙ not-false (c .before .before .before .before .before .before .before .cycle-form .result) (c .before .before .before .before .before .before .if1 .left) in
     omega (arith, c .before .before .write .ensures .count-is, chain-fits (a .corners .now) f)
 
--- src/lib.rt:45:1
 same-length : tie.Need-same-length
 same-length c = search needs
 
--- src/lib.rt:45:1
 returns-3 : tie.Need-returns-3
 unfolding chainNumber chainNeed
 returns-3 c =

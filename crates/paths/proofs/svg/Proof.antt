@@ -1,6 +1,5 @@
-use mathlib.Core.Path.{_≡_, refl, sym, ap, _∙_}
-use mathlib.Core.Bool.{true}
-use Prim.Native.Nat.{_≤_, _+_, _*_}
+-- 16 where the corners are no cycle form, 8 where the text is too short, else the path data, whose need always suffices.
+use mathlib.Core.Path.{refl, sym, _∙_}
 use native.Mathlib.Omega.{arith}
 use lib.ListN.{length}
 use borrow.Author.Tests.{not-true, not-false}
@@ -10,16 +9,10 @@ use Rattle.paths.specs.Svg.{svgNumber, svgNeed, pathData, need-suffices}
 use borrow.Author.Needs.{needs}
 use Rattle.paths.proofs.svg.Statement.{statement}
 use Rattle.paths.proofs.svg.Tie as tie
-use Rattle.paths.proofs.svg.Reads as reads
-use Rattle.paths.proofs.svg.Lts as lts
-use Rattle.paths.proofs.form.cycle_form.Reads as cycle-form-reads
-use Rattle.paths.proofs.text.write_path.Reads as write-path-reads
 
--- src/lib.rt:19:9
 cycle-form-requires : tie.Need-cycle-form-requires
 cycle-form-requires c κs = search needs
 
--- src/lib.rt:20:9
 returns : tie.Need-returns
 unfolding svgNumber
 returns c =
@@ -28,15 +21,12 @@ returns c =
     refused (svgNumber (a .corners .now) (a .text .now)) 15 (pathData (a .corners .now)) (a .text .now) _
     (no-form 16 (cycleForm (a .corners .now)) (svgNeed (a .corners .now)) (length (a .text .now)) f (omega arith)) refl refl
 
--- src/lib.rt:25:25
 mul-if2 : tie.Need-mul-if2
 mul-if2 c = search needs
 
--- src/lib.rt:25:21
 add-if2 : tie.Need-add-if2
 add-if2 c = search needs
 
--- src/lib.rt:26:9
 returns-2 : tie.Need-returns-2
 unfolding svgNumber svgNeed
 returns-2 c =
@@ -45,25 +35,21 @@ returns-2 c =
     refused (svgNumber (a .corners .now) (a .text .now)) 7 (pathData (a .corners .now)) (a .text .now) _
     (too-short 16 (cycleForm (a .corners .now)) (svgNeed (a .corners .now)) (length (a .text .now)) f (c .if2 .taken)) refl refl
 
--- src/lib.rt:31:9
 write-path-requires : tie.Need-write-path-requires
 write-path-requires c κs =
     let a = c .before .before .before .before .before .before .args in
     let f = sym (c .before .before .before .cycle-form .ensures) ∙ not-false (c .before .before .before .cycle-form .result) (c .before .before .if1 .left) in
     (parts (a .corners .now) f .within, c .before .if2 .left)
 
--- src/lib.rt:34:16
 cast-t12 : tie.Need-cast-t12
 cast-t12 c =
     let a = c .before .before .before .before .before .before .before .before .before .args in
     let f = sym (c .before .before .before .before .before .before .cycle-form .ensures) ∙ not-false (c .before .before .before .before .before .before .cycle-form .result) (c .before .before .before .before .before .if1 .left) in
     omega (arith, c .before .before .write-path .ensures .count-is, need-suffices (a .corners .now) f, parts (a .corners .now) f .most)
 
--- src/lib.rt:16:1
 same-length : tie.Need-same-length
 same-length c = search needs
 
--- src/lib.rt:16:1
 returns-3 : tie.Need-returns-3
 unfolding svgNumber svgNeed
 returns-3 c =

@@ -24,11 +24,19 @@ judge-requires c κs = head-inside (c .before .before .before .parse .ensures) (
 
 returns : tie.Need-returns
 unfolding answer picture
-returns c = record { answered = c .refusal .ensures ∙ said-refused _ _ 10 (head-bad (c .before .before .before .parse .ensures) (c .before .enum-told .given .1) _); unchanged = refl }
+returns c =
+    record {
+      answered = c .refusal .ensures ∙ said-refused _ _ 10 (head-bad (c .before .before .before .parse .ensures) (c .before .enum-told .given .1) _);
+      unchanged = refl;
+    }
 
 returns-2 : tie.Need-returns-2
 unfolding answer picture
-returns-2 c = record { answered = c .judge .ensures ∙ ap (said _) (sym (head-on (c .before .before .before .before .parse .ensures) (c .before .before .width .given .1) judged)); unchanged = refl }
+returns-2 c =
+    record {
+      answered = c .judge .ensures ∙ ap (said _) (sym (head-on (c .before .before .before .before .parse .ensures) (c .before .before .width .given .1) judged));
+      unchanged = refl;
+    }
 
 pub read-spec : {M : Type 1} → statement M
 read-spec =

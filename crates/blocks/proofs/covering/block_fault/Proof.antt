@@ -1,7 +1,7 @@
 -- The tests stand in the order of causes 3, 4 and 5; a code's ending zeros tell whether it is a multiple of 4^level.
 use borrow.Author.Needs.{needs}
 use native.Mathlib.Omega.{arith}
-use mathlib.Core.Path.{_≡_, sym, _∙_}
+use mathlib.Core.Path.{sym, _∙_}
 use Rattle.blocks.specs.Alignment.{multiple-of-level, no-multiple-of-level}
 use Rattle.blocks.specs.Covering.{fault-above, fault-elsewhere, fault-full, fault-crooked, fault-none}
 use Rattle.blocks.proofs.covering.block_fault.Statement.{statement}

@@ -1,51 +1,39 @@
+-- Each entry is held against the first.
 use Rattle.blocks.specs.Siblings.{fourAlike}
 use borrow.Author.Tests.{eq-eqb, ne-eqb}
-use mathlib.Core.Path.{_≡_, refl, sym, ap, _∙_}
 use borrow.Author.Needs.{needs}
 use Rattle.blocks.proofs.covering.four_alike.Statement.{statement}
 use Rattle.blocks.proofs.covering.four_alike.Tie as tie
-use Rattle.blocks.proofs.covering.four_alike.Reads as reads
-use Rattle.blocks.proofs.covering.four_alike.Lts as lts
 
--- src/covering.rt:60:17
 shared-slice-read-first : tie.Need-shared-slice-read-first
 shared-slice-read-first c = search needs
 
--- src/covering.rt:61:13
 add-if1 : tie.Need-add-if1
 add-if1 c = search needs
 
--- src/covering.rt:61:8
 shared-slice-read-if1 : tie.Need-shared-slice-read-if1
 shared-slice-read-if1 c = search needs
 
--- src/covering.rt:62:9
 returns : tie.Need-returns
 unfolding fourAlike
 returns c = rw (ne-eqb _ _ (c .if1 .taken))
 
--- src/covering.rt:64:13
 add-if2 : tie.Need-add-if2
 add-if2 c = search needs
 
--- src/covering.rt:64:8
 shared-slice-read-if2 : tie.Need-shared-slice-read-if2
 shared-slice-read-if2 c = search needs
 
--- src/covering.rt:65:9
 returns-2 : tie.Need-returns-2
 unfolding fourAlike
 returns-2 c = rw (eq-eqb _ _ (c .before .before .if1 .left), ne-eqb _ _ (c .if2 .taken))
 
--- src/covering.rt:67:10
 add-result : tie.Need-add-result
 add-result c = search needs
 
--- src/covering.rt:67:5
 shared-slice-read-result : tie.Need-shared-slice-read-result
 shared-slice-read-result c = search needs
 
--- src/covering.rt:56:1
 returns-3 : tie.Need-returns-3
 unfolding fourAlike
 returns-3 c = rw (eq-eqb _ _ (c .before .before .before .if1 .left), eq-eqb _ _ (c .before .if2 .left))

@@ -1,19 +1,12 @@
-use mathlib.Core.Path.{_≡_, refl, sym, ap, _∙_}
-use mathlib.Core.Logic.{⊎-elim}
-use Prim.Native.Nat.{ℕ, _≤_, _<_, _-_, _+_}
-use native.Mathlib.Omega.{arith}
-use lib.ListN.{length, take, drop, getD, set}
+-- The loop's invariant: the block of level l at c has one colour. It stops at the first level that has not, or at the top.
+-- The measure is what is left to the top.
+use mathlib.Core.Path.{refl}
+use Prim.Native.Nat.{_-_}
 use borrow.Author.Needs.{needs}
 use borrow.Author.Tests.{not-true, not-false}
 use Rattle.blocks.specs.Growth.{Growth, place-read, growth-none, growth-fits, growth-more, growth-stops, growth-full}
 use Rattle.blocks.proofs.merge.level_at.Statement.{statement}
 use Rattle.blocks.proofs.merge.level_at.Tie as tie
-use Rattle.blocks.proofs.merge.level_at.Reads as reads
-use Rattle.blocks.proofs.merge.level_at.Lts as lts
-use Rattle.blocks.proofs.squares.others_alike.Reads as others-alike-reads
-use Rattle.blocks.proofs.squares.place.Reads as place-reads
-use Rattle.location.proofs.side.Reads as side-reads
-use Rattle.location.proofs.top_level.Reads as top-level-reads
 
 abbrev Inv-loop : tie.InvT-loop
 Inv-loop n raster c top w at v l₀ l = Growth n raster c top w at v l
@@ -21,51 +14,39 @@ Inv-loop n raster c top w at v l₀ l = Growth n raster c top w at v l
 abbrev μ-loop : tie.MeasureT-loop
 μ-loop n raster c top w at v l₀ l = top - l
 
--- src/merge.rt:17:9
 top-level-requires : tie.Need-top-level-requires Inv-loop μ-loop
 top-level-requires c κs = search needs
 
--- src/merge.rt:18:9
 side-requires : tie.Need-side-requires Inv-loop μ-loop
 side-requires c κs = search needs
 
--- src/merge.rt:19:9
 place-requires : tie.Need-place-requires Inv-loop μ-loop
 place-requires c κs = search needs
 
--- src/merge.rt:20:13
 shared-slice-read-v : tie.Need-shared-slice-read-v Inv-loop μ-loop
 shared-slice-read-v c = place-read (c .before .before .before .before .before .pre .0) (c .before .before .before .before .before .pre .1) (c .before .place .ensures)
 
--- src/merge.rt:22:5
 loop-holds : tie.Need-loop-holds Inv-loop μ-loop
 loop-holds c = growth-none (c .before .before .before .before .before .pre .0) (c .before .before .before .before .before .pre .1) (c .before .before .before .top-level .ensures) (c .before .before .side .ensures) (c .before .place .ensures) refl
 
--- src/merge.rt:23:41
 side-requires-2 : tie.Need-side-requires-2 Inv-loop μ-loop
 side-requires-2 c κs = search needs
 
--- src/merge.rt:23:13
 others-alike-requires : tie.Need-others-alike-requires Inv-loop μ-loop
 others-alike-requires c κs = growth-fits (c .before .before .before .before .before .before .before .before .pre .0) (c .before .before .before .before .before .before .before .before .pre .1) (c .before .before .loop .inv) (c .before .loop-test .taken) (c .side2 .ensures)
 
--- src/merge.rt:24:13
 returns : tie.Need-returns Inv-loop μ-loop
 returns c = growth-stops (c .before .before .before .before .before .before .before .before .before .before .pre .0) (c .before .before .before .before .before .before .before .before .before .before .pre .1) (c .before .before .before .before .loop .inv) (c .before .before .before .loop-test .taken) (c .before .before .side2 .ensures) (c .before .others-alike .ensures) (not-true _ (c .if1 .taken))
 
--- src/merge.rt:26:9
 add-l : tie.Need-add-l Inv-loop μ-loop
 add-l c = search needs
 
--- src/merge.rt:22:5
 loop-less : tie.Need-loop-less Inv-loop μ-loop
 loop-less c = search needs
 
--- src/merge.rt:22:5
 loop-again : tie.Need-loop-again Inv-loop μ-loop
 loop-again c = growth-more (c .before .before .before .before .before .before .before .before .before .before .pre .0) (c .before .before .before .before .before .before .before .before .before .before .pre .1) (c .before .before .before .before .loop .inv) (c .before .before .before .loop-test .taken) (c .before .before .side2 .ensures) (c .before .others-alike .ensures) (not-false _ (c .if1 .left))
 
--- src/merge.rt:13:1
 returns-2 : tie.Need-returns-2 Inv-loop μ-loop
 returns-2 c = growth-full (c .before .before .before .before .before .before .before .pre .0) (c .before .before .before .before .before .before .before .pre .1) (c .before .loop .inv) (c .loop-test .left)
 

@@ -1,14 +1,10 @@
+-- The loop's invariant: the entries before i are filled and all others are as they were. The measure is what is left of the run.
 use Rattle.blocks.specs.Filling.{RunDone, run-done-none, run-fits, run-done-more, run-done-all}
-use mathlib.Core.Path.{_≡_, refl, sym, ap, _∙_}
-use mathlib.Core.Logic.{⊎-elim}
-use Prim.Native.Nat.{ℕ, _≤_, _<_, _-_, _+_}
-use native.Mathlib.Omega.{arith}
-use lib.ListN.{length, take, drop, getD, set}
+use mathlib.Core.Path.{_≡_, refl}
+use Prim.Native.Nat.{_-_, _+_}
 use borrow.Author.Needs.{needs}
 use Rattle.blocks.proofs.paint.fill_run.Statement.{statement}
 use Rattle.blocks.proofs.paint.fill_run.Tie as tie
-use Rattle.blocks.proofs.paint.fill_run.Reads as reads
-use Rattle.blocks.proofs.paint.fill_run.Lts as lts
 
 abbrev Inv-loop : tie.InvT-loop
 Inv-loop raster₀ from s v end i₀ raster i = (end ≡ from + s) × RunDone from s v i raster₀ raster
@@ -16,35 +12,27 @@ Inv-loop raster₀ from s v end i₀ raster i = (end ≡ from + s) × RunDone fr
 abbrev μ-loop : tie.MeasureT-loop
 μ-loop raster₀ from s v end i₀ raster i = end - i
 
--- src/paint.rt:18:15
 add-end : tie.Need-add-end Inv-loop μ-loop
 add-end c = search needs
 
--- src/paint.rt:20:5
 loop-holds : tie.Need-loop-holds Inv-loop μ-loop
 loop-holds c = (refl, run-done-none)
 
--- src/paint.rt:21:9
 slice-write-raster : tie.Need-slice-write-raster Inv-loop μ-loop
 slice-write-raster c = run-fits (c .before .loop .inv .1) (c .before .before .pre) (c .loop-test .taken)
 
--- src/paint.rt:22:9
 add-i : tie.Need-add-i Inv-loop μ-loop
 add-i c = search needs
 
--- src/paint.rt:20:5
 loop-less : tie.Need-loop-less Inv-loop μ-loop
 loop-less c = search needs
 
--- src/paint.rt:20:5
 loop-again : tie.Need-loop-again Inv-loop μ-loop
 loop-again c = (refl, run-done-more (c .before .loop .inv .1) (c .before .before .pre) (c .loop-test .taken))
 
--- src/paint.rt:14:1
 same-length : tie.Need-same-length Inv-loop μ-loop
 same-length c = c .before .loop .inv .1 .filled .long
 
--- src/paint.rt:14:1
 returns : tie.Need-returns Inv-loop μ-loop
 returns c = run-done-all (c .before .loop .inv .1) (c .loop-test .left)
 

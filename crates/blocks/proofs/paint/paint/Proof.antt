@@ -1,17 +1,11 @@
+-- The loop's invariant: the pixels of the blocks before i have their colours. The measure is the blocks left.
 use Rattle.blocks.specs.Painting.{PaintedTo, painted-none, code-inside, block-fits, painted-more, painted-all, same-length as kept}
-use mathlib.Core.Path.{_≡_, refl, sym, ap, _∙_}
-use mathlib.Core.Logic.{⊎-elim}
-use Prim.Native.Nat.{ℕ, _≤_, _<_, _-_, _+_}
+use Prim.Native.Nat.{_-_}
 use native.Mathlib.Omega.{arith}
-use lib.ListN.{length, take, drop, getD, set}
+use lib.ListN.{length}
 use borrow.Author.Needs.{needs}
 use Rattle.blocks.proofs.paint.paint.Statement.{statement}
 use Rattle.blocks.proofs.paint.paint.Tie as tie
-use Rattle.blocks.proofs.paint.paint.Reads as reads
-use Rattle.blocks.proofs.paint.paint.Lts as lts
-use Rattle.blocks.proofs.paint.fill_square.Reads as fill-square-reads
-use Rattle.blocks.proofs.squares.place.Reads as place-reads
-use Rattle.location.proofs.side.Reads as side-reads
 
 abbrev Inv-loop : tie.InvT-loop
 Inv-loop n codes levels colours raster₀ w i₀ raster i = PaintedTo n codes levels colours raster₀ w raster i
@@ -19,63 +13,48 @@ Inv-loop n codes levels colours raster₀ w i₀ raster i = PaintedTo n codes le
 abbrev μ-loop : tie.MeasureT-loop
 μ-loop n codes levels colours raster₀ w i₀ raster i = length codes - i
 
--- src/paint.rt:45:9
 side-requires : tie.Need-side-requires Inv-loop μ-loop
 side-requires c κs = search needs
 
--- src/paint.rt:47:5
 loop-holds : tie.Need-loop-holds Inv-loop μ-loop
 loop-holds c = painted-none (c .before .before .before .before .before .pre) (c .side .ensures)
 
--- src/paint.rt:48:32
 shared-slice-read-side : tie.Need-shared-slice-read-side Inv-loop μ-loop
 shared-slice-read-side c = search needs
 
--- src/paint.rt:48:32
 cast-side : tie.Need-cast-side Inv-loop μ-loop
 cast-side c = omega (arith, c .shared-slice-known4 .given (c .before .before .loop .i))
 
--- src/paint.rt:48:13
 side-requires-2 : tie.Need-side-requires-2 Inv-loop μ-loop
 side-requires-2 c κs = search needs
 
--- src/paint.rt:49:27
 mul-place : tie.Need-mul-place Inv-loop μ-loop
 mul-place c = search needs
 
--- src/paint.rt:49:27
 shared-slice-read-place : tie.Need-shared-slice-read-place Inv-loop μ-loop
 shared-slice-read-place c = search needs
 
--- src/paint.rt:49:13
 place-requires : tie.Need-place-requires Inv-loop μ-loop
 place-requires c κs = (c .before .before .before .before .before .before .before .before .before .before .pre .small, code-inside (c .before .before .before .before .before .before .before .before .before .before .pre) (c .before .before .before .before .loop .inv) (c .before .before .before .loop-test .taken))
 
--- src/paint.rt:50:39
 shared-slice-read-fill-square : tie.Need-shared-slice-read-fill-square Inv-loop μ-loop
 shared-slice-read-fill-square c = search needs
 
--- src/paint.rt:50:9
 fill-square-requires : tie.Need-fill-square-requires Inv-loop μ-loop
 fill-square-requires c κs = block-fits (c .before .before .before .before .before .before .before .before .before .before .before .before .before .pre) (c .before .before .before .before .before .before .before .loop .inv) (c .before .before .before .before .before .before .loop-test .taken) (c .before .before .place .ensures) (c .before .before .before .before .side2 .ensures)
 
--- src/paint.rt:51:9
 add-i : tie.Need-add-i Inv-loop μ-loop
 add-i c = search needs
 
--- src/paint.rt:47:5
 loop-less : tie.Need-loop-less Inv-loop μ-loop
 loop-less c = search needs
 
--- src/paint.rt:47:5
 loop-again : tie.Need-loop-again Inv-loop μ-loop
 loop-again c = painted-more (c .before .before .before .before .before .before .before .before .before .before .before .before .before .before .before .before .pre) (c .before .before .before .before .before .before .before .before .before .before .loop .inv) (c .before .before .before .before .before .before .before .before .before .loop-test .taken) (c .before .before .before .before .before .place .ensures) (c .before .before .before .before .before .before .before .side2 .ensures) (c .before .before .fill-square .ensures)
 
--- src/paint.rt:41:1
 same-length : tie.Need-same-length Inv-loop μ-loop
 same-length c = kept (c .before .before .before .before .before .before .before .pre) (c .before .loop .inv)
 
--- src/paint.rt:41:1
 returns : tie.Need-returns Inv-loop μ-loop
 returns c = painted-all (c .before .before .before .before .before .before .before .pre) (c .before .loop .inv) (c .loop-test .left)
 

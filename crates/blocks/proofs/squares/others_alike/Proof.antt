@@ -1,59 +1,44 @@
+-- Each square is asked in turn; the first that differs ends the question.
 use borrow.Author.Tests.{not-true, not-false}
-use mathlib.Core.Path.{_≡_, sym, _∙_}
+use mathlib.Core.Path.{sym, _∙_}
 use native.Mathlib.Omega.{arith}
 use Rattle.sequences.specs.Cases.{and-stop, and-go-on}
-use borrow.Author.Needs.{needs}
 use Rattle.blocks.proofs.squares.others_alike.Statement.{statement}
 use Rattle.blocks.proofs.squares.others_alike.Tie as tie
-use Rattle.blocks.proofs.squares.others_alike.Reads as reads
-use Rattle.blocks.proofs.squares.others_alike.Lts as lts
-use Rattle.blocks.proofs.squares.square_alike.Reads as square-alike-reads
 
--- src/squares.rt:58:33
 add-square-alike : tie.Need-add-square-alike
 add-square-alike c = omega (arith, c .before .pre)
 
--- src/squares.rt:58:9
 square-alike-requires : tie.Need-square-alike-requires
 square-alike-requires c κs = (c .before .pre .narrow, c .before .pre .east)
 
--- src/squares.rt:59:9
 returns : tie.Need-returns
 returns c = sym (and-stop _ _ (sym (c .before .square-alike .ensures) ∙ not-true _ (c .if1 .taken)))
 
--- src/squares.rt:61:38
 mul-square-alike : tie.Need-mul-square-alike
 mul-square-alike c = omega (arith, c .before .before .before .pre)
 
--- src/squares.rt:61:33
 add-square-alike-2 : tie.Need-add-square-alike-2
 add-square-alike-2 c = omega (arith, c .before .before .before .pre)
 
--- src/squares.rt:61:9
 square-alike-requires-2 : tie.Need-square-alike-requires-2
 square-alike-requires-2 c κs = (c .before .before .before .pre .narrow, c .before .before .before .pre .south)
 
--- src/squares.rt:62:9
 returns-2 : tie.Need-returns-2
 returns-2 c = sym (and-go-on _ _ (sym (c .before .before .before .square-alike .ensures) ∙ not-false _ (c .before .before .if1 .left)) ∙ and-stop _ _ (sym (c .before .square-alike2 .ensures) ∙ not-true _ (c .if2 .taken)))
 
--- src/squares.rt:64:34
 mul-square-alike-2 : tie.Need-mul-square-alike-2
 mul-square-alike-2 c = omega (arith, c .before .before .before .before .before .pre)
 
--- src/squares.rt:64:29
 add-square-alike-3 : tie.Need-add-square-alike-3
 add-square-alike-3 c = omega (arith, c .before .before .before .before .before .pre)
 
--- src/squares.rt:64:29
 add-square-alike-4 : tie.Need-add-square-alike-4
 add-square-alike-4 c = omega (arith, c .before .before .before .before .before .pre)
 
--- src/squares.rt:64:5
 square-alike-requires-3 : tie.Need-square-alike-requires-3
 square-alike-requires-3 c κs = (c .before .before .before .before .before .pre .narrow, c .before .before .before .before .before .pre .southeast)
 
--- src/squares.rt:54:1
 returns-3 : tie.Need-returns-3
 returns-3 c = c .square-alike3 .ensures ∙ sym (and-go-on _ _ (sym (c .before .before .before .before .square-alike .ensures) ∙ not-false _ (c .before .before .before .if1 .left)) ∙ and-go-on _ _ (sym (c .before .before .square-alike2 .ensures) ∙ not-false _ (c .before .if2 .left)))
 

@@ -1,46 +1,34 @@
+-- The coordinates of a code below 4^n are its first n digits, so row times side plus column is the place; all below 2^16.
 use native.Mathlib.Omega.{arith}
 use Rattle.blocks.specs.Places.{Placed, placed}
 use borrow.Author.Needs.{needs}
 use Rattle.blocks.proofs.squares.place.Statement.{statement}
 use Rattle.blocks.proofs.squares.place.Tie as tie
-use Rattle.blocks.proofs.squares.place.Reads as reads
-use Rattle.blocks.proofs.squares.place.Lts as lts
-use Rattle.location.proofs.column.Reads as column-reads
-use Rattle.location.proofs.row.Reads as row-reads
-use Rattle.location.proofs.side.Reads as side-reads
 
 here : (c : tie.After-side) → Placed (c .before .before .before .args .n) (c .before .before .before .args .c) (c .before .before .column .result) (c .before .row .result) (c .side .result)
 here c = placed _ _ _ _ _ (c .before .before .before .pre .0) (c .before .before .before .pre .1) (c .before .before .column .ensures) (c .before .row .ensures) (c .side .ensures)
 
--- src/squares.rt:15:13
 column-requires : tie.Need-column-requires
 column-requires c κs = search needs
 
--- src/squares.rt:15:13
 cast-x : tie.Need-cast-x
 cast-x c = search needs
 
--- src/squares.rt:16:13
 row-requires : tie.Need-row-requires
 row-requires c κs = search needs
 
--- src/squares.rt:16:13
 cast-y : tie.Need-cast-y
 cast-y c = search needs
 
--- src/squares.rt:17:9
 side-requires : tie.Need-side-requires
 side-requires c κs = search needs
 
--- src/squares.rt:17:5
 mul-result : tie.Need-mul-result
 mul-result c = omega (arith, here c)
 
--- src/squares.rt:17:5
 add-result : tie.Need-add-result
 add-result c = omega (arith, here c)
 
--- src/squares.rt:11:1
 returns : tie.Need-returns
 returns c = here c .here
 

@@ -1,15 +1,12 @@
+-- The loop's invariant: the pixels from i on are alike exactly when all of the run are. The measure is what is left of the run.
 use Rattle.quadtree.specs.Quadtree.{alike}
 use Rattle.blocks.specs.Squares.{run-ended, run-goes-on, run-breaks}
 use mathlib.Core.Path.{_≡_, refl, sym, ap, _∙_}
-use mathlib.Core.Logic.{⊎-elim}
-use Prim.Native.Nat.{ℕ, _≤_, _<_, _-_, _+_}
+use Prim.Native.Nat.{_≤_, _-_, _+_}
 use native.Mathlib.Omega.{arith}
-use lib.ListN.{length, take, drop, getD, set}
 use borrow.Author.Needs.{needs}
 use Rattle.blocks.proofs.squares.run_alike.Statement.{statement}
 use Rattle.blocks.proofs.squares.run_alike.Tie as tie
-use Rattle.blocks.proofs.squares.run_alike.Reads as reads
-use Rattle.blocks.proofs.squares.run_alike.Lts as lts
 
 abbrev Inv-loop : tie.InvT-loop
 Inv-loop raster from s v end i₀ i = (from ≤ i) × (i ≤ end) × (end ≡ from + s) × (alike raster v i (end - i) ≡ alike raster v from s)
@@ -17,35 +14,27 @@ Inv-loop raster from s v end i₀ i = (from ≤ i) × (i ≤ end) × (end ≡ fr
 abbrev μ-loop : tie.MeasureT-loop
 μ-loop raster from s v end i₀ i = end - i
 
--- src/squares.rt:25:15
 add-end : tie.Need-add-end Inv-loop μ-loop
 add-end c = search needs
 
--- src/squares.rt:27:5
 loop-holds : tie.Need-loop-holds Inv-loop μ-loop
 loop-holds c = let a = c .args in let e : a .from + a .s - a .from ≡ a .s = omega arith in (omega arith, omega arith, refl, ap (alike (a .raster .now) (a .v) (a .from)) e)
 
--- src/squares.rt:28:12
 shared-slice-read-if1 : tie.Need-shared-slice-read-if1 Inv-loop μ-loop
 shared-slice-read-if1 c = search needs
 
--- src/squares.rt:29:13
 returns : tie.Need-returns Inv-loop μ-loop
 returns c = let a = c .before .before .before .before .args in run-breaks (a .raster .now) (a .v) (c .before .before .before .loop .i) (a .from + a .s) (c .before .before .loop-test .taken) (c .if1 .taken) ∙ c .before .before .before .loop .inv .3
 
--- src/squares.rt:31:9
 add-i : tie.Need-add-i Inv-loop μ-loop
 add-i c = search needs
 
--- src/squares.rt:27:5
 loop-less : tie.Need-loop-less Inv-loop μ-loop
 loop-less c = search needs
 
--- src/squares.rt:27:5
 loop-again : tie.Need-loop-again Inv-loop μ-loop
 loop-again c = let a = c .before .before .before .before .args in (omega arith, omega arith, refl, sym (run-goes-on (a .raster .now) (a .v) (c .before .before .before .loop .i) (a .from + a .s) (c .before .before .loop-test .taken) (c .if1 .left)) ∙ c .before .before .before .loop .inv .3)
 
--- src/squares.rt:21:1
 returns-2 : tie.Need-returns-2 Inv-loop μ-loop
 returns-2 c = let a = c .before .before .args in run-ended (a .raster .now) (a .v) (c .before .loop .i) (a .from + a .s - c .before .loop .i) (omega arith) ∙ c .before .loop .inv .3
 

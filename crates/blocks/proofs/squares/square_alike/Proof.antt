@@ -1,16 +1,12 @@
+-- The loop's invariant: the rows from y on are alike exactly when all rows are. The measure is the rows left.
 use borrow.Author.Tests.{not-true, not-false}
-use mathlib.Core.Path.{_≡_, refl, sym, ap, _∙_}
-use mathlib.Core.Logic.{⊎-elim}
-use Prim.Native.Nat.{ℕ, _≤_, _<_, _-_, _+_}
+use mathlib.Core.Path.{sym, _∙_}
+use Prim.Native.Nat.{_-_}
 use native.Mathlib.Omega.{arith}
-use lib.ListN.{length, take, drop, getD, set}
 use borrow.Author.Needs.{needs}
 use Rattle.blocks.specs.Squares.{Rows, rows-none, row-fits, rows-more, rows-stop, rows-all}
 use Rattle.blocks.proofs.squares.square_alike.Statement.{statement}
 use Rattle.blocks.proofs.squares.square_alike.Tie as tie
-use Rattle.blocks.proofs.squares.square_alike.Reads as reads
-use Rattle.blocks.proofs.squares.square_alike.Lts as lts
-use Rattle.blocks.proofs.squares.run_alike.Reads as run-alike-reads
 
 abbrev Inv-loop : tie.InvT-loop
 Inv-loop raster w at s v from₀ y₀ from y = Rows raster v w at s from y
@@ -18,35 +14,27 @@ Inv-loop raster w at s v from₀ y₀ from y = Rows raster v w at s from y
 abbrev μ-loop : tie.MeasureT-loop
 μ-loop raster w at s v from₀ y₀ from y = s - y
 
--- src/squares.rt:43:5
 loop-holds : tie.Need-loop-holds Inv-loop μ-loop
 loop-holds c = rows-none (c .before .pre .1)
 
--- src/squares.rt:44:13
 run-alike-requires : tie.Need-run-alike-requires Inv-loop μ-loop
 run-alike-requires c κs = row-fits (c .before .loop .inv) (c .loop-test .taken)
 
--- src/squares.rt:45:13
 returns : tie.Need-returns Inv-loop μ-loop
 returns c = rows-stop (c .before .before .before .loop .inv) (c .before .before .loop-test .taken) (sym (c .before .run-alike .ensures) ∙ not-true _ (c .if1 .taken))
 
--- src/squares.rt:47:9
 add-from : tie.Need-add-from Inv-loop μ-loop
 add-from c = omega (arith, row-fits (c .before .before .before .loop .inv) (c .before .before .loop-test .taken), c .before .before .before .before .before .pre .0, c .before .before .before .before .before .good)
 
--- src/squares.rt:48:9
 add-y : tie.Need-add-y Inv-loop μ-loop
 add-y c = search needs
 
--- src/squares.rt:43:5
 loop-less : tie.Need-loop-less Inv-loop μ-loop
 loop-less c = search needs
 
--- src/squares.rt:43:5
 loop-again : tie.Need-loop-again Inv-loop μ-loop
 loop-again c = rows-more (c .before .before .before .loop .inv) (c .before .before .loop-test .taken) (sym (c .before .run-alike .ensures) ∙ not-false _ (c .if1 .left))
 
--- src/squares.rt:37:1
 returns-2 : tie.Need-returns-2 Inv-loop μ-loop
 returns-2 c = rows-all (c .before .loop .inv) (c .loop-test .left)
 

@@ -1,20 +1,15 @@
-use mathlib.Core.Bool.{true}
-use Rattle.lattice.specs.CycleForm.{after, allInside}
+-- The loop's invariant: the sum and the unit edges from the corner at i on are all unit edges. They are at most 256 a corner, so the
+-- sum fits. The measure: the corners left.
 use Rattle.lattice.specs.Legs.{distance}
 use Rattle.lattice.specs.Walks.{outline}
 use Rattle.paths.specs.Chain.{wayFrom, way-whole, way-end, length-next, edges-most}
-use mathlib.Core.Path.{_≡_, refl, sym, ap, _∙_}
-use mathlib.Core.Logic.{⊎-elim}
-use Prim.Native.Nat.{ℕ, _≤_, _<_, _-_, _+_}
+use mathlib.Core.Path.{_≡_, sym, ap, _∙_}
+use Prim.Native.Nat.{_≤_, _-_, _+_}
 use native.Mathlib.Omega.{arith}
-use lib.ListN.{length, take, drop, getD, set}
+use lib.ListN.{length, getD}
 use borrow.Author.Needs.{needs}
 use Rattle.paths.proofs.edges.count.Statement.{statement}
 use Rattle.paths.proofs.edges.count.Tie as tie
-use Rattle.paths.proofs.edges.count.Reads as reads
-use Rattle.paths.proofs.edges.count.Lts as lts
-use Rattle.paths.proofs.edges.next.Reads as next-reads
-use Rattle.paths.proofs.edges.units.Reads as units-reads
 
 abbrev Inv-loop : tie.InvT-loop
 Inv-loop corners sum₀ i₀ sum i = (i ≤ length corners) × (sum + length (wayFrom corners i) ≡ length (outline corners))
@@ -24,49 +19,39 @@ abbrev μ-loop : tie.MeasureT-loop
 
 -- The step at i is what is counted.
 step : (c : tie.After-units Inv-loop μ-loop) → let l = c .before .before .before .before .loop in let cs = c .before .before .before .before .before .before .args .corners .now in
-     length (wayFrom cs (l .i)) ≡ c .units .result + length (wayFrom cs (l .i + 1))
+    length (wayFrom cs (l .i)) ≡ c .units .result + length (wayFrom cs (l .i + 1))
 step c =
-     let l = c .before .before .before .before .loop in
-     let cs = c .before .before .before .before .before .before .args .corners .now in
-     length-next cs (l .i) (c .before .before .before .loop-test .taken) ∙ ap (λ n. n + length (wayFrom cs (l .i + 1))) (sym (c .units .ensures ∙ ap (distance (getD cs (l .i) 0)) (c .before .next .ensures)))
+    let l = c .before .before .before .before .loop in
+    let cs = c .before .before .before .before .before .before .args .corners .now in
+    length-next cs (l .i) (c .before .before .before .loop-test .taken) ∙ ap (λ n. n + length (wayFrom cs (l .i + 1))) (sym (c .units .ensures ∙ ap (distance (getD cs (l .i) 0)) (c .before .next .ensures)))
 
--- src/edges.rt:66:5
 loop-holds : tie.Need-loop-holds Inv-loop μ-loop
 loop-holds c = (search needs, omega (arith, ap length (way-whole (c .before .args .corners .now))))
 
--- src/edges.rt:67:17
 mul-p : tie.Need-mul-p Inv-loop μ-loop
 mul-p c = search needs
 
--- src/edges.rt:67:17
 shared-slice-read-p : tie.Need-shared-slice-read-p Inv-loop μ-loop
 shared-slice-read-p c = search needs
 
--- src/edges.rt:68:13
 next-requires : tie.Need-next-requires Inv-loop μ-loop
 next-requires c κs = search needs
 
--- src/edges.rt:69:16
 units-requires : tie.Need-units-requires Inv-loop μ-loop
 units-requires c κs = search needs
 
--- src/edges.rt:69:9
 add-sum : tie.Need-add-sum Inv-loop μ-loop
 add-sum c = let cs = c .before .before .before .before .before .before .args .corners .now in omega (arith, step c, edges-most cs (c .before .before .before .before .before .before .pre .1) (c .before .before .before .before .before .before .pre .0))
 
--- src/edges.rt:70:9
 add-i : tie.Need-add-i Inv-loop μ-loop
 add-i c = search needs
 
--- src/edges.rt:66:5
 loop-less : tie.Need-loop-less Inv-loop μ-loop
 loop-less c = omega arith
 
--- src/edges.rt:66:5
 loop-again : tie.Need-loop-again Inv-loop μ-loop
 loop-again c = (omega arith, omega (arith, step c))
 
--- src/edges.rt:60:1
 returns : tie.Need-returns Inv-loop μ-loop
 returns c = omega (arith, ap length (way-end (c .before .before .before .args .corners .now) (c .before .loop .i) (c .loop-test .left)))
 

@@ -1,36 +1,28 @@
+-- The next entry if there is one, else the first.
 use mathlib.Core.Path.{sym}
 use Rattle.lattice.specs.CycleForm.{after-inner, after-last}
 use borrow.Author.Needs.{needs}
 use Rattle.paths.proofs.edges.next.Statement.{statement}
 use Rattle.paths.proofs.edges.next.Tie as tie
-use Rattle.paths.proofs.edges.next.Reads as reads
-use Rattle.paths.proofs.edges.next.Lts as lts
 
--- src/edges.rt:53:8
 add-if1 : tie.Need-add-if1
 add-if1 c = search needs
 
--- src/edges.rt:54:24
 add-result : tie.Need-add-result
 add-result c = search needs
 
--- src/edges.rt:54:16
 mul-result : tie.Need-mul-result
 mul-result c = search needs
 
--- src/edges.rt:54:16
 shared-slice-read-result : tie.Need-shared-slice-read-result
 shared-slice-read-result c = search needs
 
--- src/edges.rt:54:9
 returns : tie.Need-returns
 returns c = let a = c .before .before .args in sym (after-inner (a .corners .now) (a .i) (c .before .if1 .taken))
 
--- src/edges.rt:56:5
 shared-slice-read-result-2 : tie.Need-shared-slice-read-result-2
 shared-slice-read-result-2 c = search needs
 
--- src/edges.rt:49:1
 returns-2 : tie.Need-returns-2
 returns-2 c = let a = c .before .before .args in sym (after-last (a .corners .now) (a .i) (c .before .if1 .left))
 

@@ -1,52 +1,41 @@
+-- The difference of the coordinates in each of the definition's four cases.
 use mathlib.Core.Path.{sym}
 use Rattle.lattice.specs.Directions.{xOf, yOf}
 use Rattle.lattice.specs.Legs.{distance-east, distance-west, distance-south, distance-north}
 use borrow.Author.Needs.{needs}
 use Rattle.paths.proofs.edges.units.Statement.{statement}
 use Rattle.paths.proofs.edges.units.Tie as tie
-use Rattle.paths.proofs.edges.units.Reads as reads
-use Rattle.paths.proofs.edges.units.Lts as lts
 
--- src/edges.rt:32:13
 cast-x : tie.Need-cast-x
 cast-x c = search needs
 
--- src/edges.rt:33:13
 cast-y : tie.Need-cast-y
 cast-y c = search needs
 
--- src/edges.rt:34:13
 cast-u : tie.Need-cast-u
 cast-u c = search needs
 
--- src/edges.rt:35:13
 cast-v : tie.Need-cast-v
 cast-v c = search needs
 
--- src/edges.rt:38:20
 sub-result : tie.Need-sub-result
 sub-result c = search needs
 
--- src/edges.rt:38:13
 returns : tie.Need-returns
 unfolding xOf yOf
 returns c = let a = c .before .before .args in sym (distance-east (a .p) (a .q) (c .before .if1 .taken) (c .if2 .taken))
 
--- src/edges.rt:40:9
 returns-2 : tie.Need-returns-2
 unfolding xOf yOf
 returns-2 c = let a = c .before .before .args in sym (distance-west (a .p) (a .q) (c .before .if1 .taken) (c .if2 .left))
 
--- src/edges.rt:43:16
 sub-result-2 : tie.Need-sub-result-2
 sub-result-2 c = search needs
 
--- src/edges.rt:43:9
 returns-3 : tie.Need-returns-3
 unfolding xOf yOf
 returns-3 c = let a = c .before .before .args in sym (distance-south (a .p) (a .q) (c .before .if1 .left) (c .if3 .taken))
 
--- src/edges.rt:29:1
 returns-4 : tie.Need-returns-4
 unfolding xOf yOf
 returns-4 c = let a = c .before .before .args in sym (distance-north (a .p) (a .q) (c .before .if1 .left) (c .if3 .left))

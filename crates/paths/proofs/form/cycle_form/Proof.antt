@@ -1,52 +1,40 @@
-use mathlib.Core.Path.{_≡_, refl, sym, ap, _∙_}
+-- The parts of the test are asked in the definition's order, so each return meets its value.
+use mathlib.Core.Path.{sym, _∙_}
 use native.Mathlib.Omega.{arith}
-use lib.ListN.{length}
 use borrow.Author.Tests.{eq-eqb, ne-eqb, le-leb, lt-leb, lt-ltb, le-ltb, not-true, not-false}
-use Rattle.lattice.specs.CycleForm.{cycleForm, allInside}
+use Rattle.lattice.specs.CycleForm.{cycleForm}
 use Rattle.paths.specs.Scan.{eastward-is}
 use borrow.Author.Needs.{needs}
 use Rattle.paths.proofs.form.cycle_form.Statement.{statement}
 use Rattle.paths.proofs.form.cycle_form.Tie as tie
-use Rattle.paths.proofs.form.cycle_form.Reads as reads
-use Rattle.paths.proofs.form.cycle_form.Lts as lts
-use Rattle.paths.proofs.form.all_within.Reads as all-within-reads
-use Rattle.paths.proofs.form.turning.Reads as turning-reads
 
--- src/form.rt:61:9
 returns : tie.Need-returns
 unfolding cycleForm
 returns c = simp (ne-eqb _ _ (c .if1 .taken))
 
--- src/form.rt:64:9
 returns-2 : tie.Need-returns-2
 unfolding cycleForm
 returns-2 c = simp (eq-eqb _ _ (c .before .if1 .left), lt-leb _ _ (c .if2 .taken))
 
--- src/form.rt:67:9
 returns-3 : tie.Need-returns-3
 unfolding cycleForm
 returns-3 c = simp (eq-eqb _ _ (c .before .before .if1 .left), le-leb _ _ (c .before .if2 .left), lt-leb _ _ (c .if3 .taken))
 
--- src/form.rt:69:9
 all-within-requires : tie.Need-all-within-requires
 all-within-requires c κs = search needs
 
--- src/form.rt:70:9
 returns-4 : tie.Need-returns-4
 unfolding cycleForm
 returns-4 c =
     let a = sym (c .before .all-within .ensures) ∙ not-true (c .before .all-within .result) (c .if4 .taken) in
     simp (eq-eqb _ _ (c .before .before .before .before .if1 .left), le-leb _ _ (c .before .before .before .if2 .left), le-leb _ _ (c .before .before .if3 .left), a)
 
--- src/form.rt:72:8
 shared-slice-read-if5 : tie.Need-shared-slice-read-if5
 shared-slice-read-if5 c = search needs
 
--- src/form.rt:72:28
 shared-slice-read-if5-2 : tie.Need-shared-slice-read-if5-2
 shared-slice-read-if5-2 c = search needs
 
--- src/form.rt:73:9
 returns-5 : tie.Need-returns-5
 unfolding cycleForm
 returns-5 c =
@@ -55,11 +43,9 @@ returns-5 c =
     let e = eastward-is cs (omega arith) ∙ le-ltb _ _ (c .if5 .taken) in
     simp (eq-eqb _ _ (c .before .before .before .before .before .before .before .if1 .left), le-leb _ _ (c .before .before .before .before .before .before .if2 .left), le-leb _ _ (c .before .before .before .before .before .if3 .left), a, e)
 
--- src/form.rt:75:5
 turning-requires : tie.Need-turning-requires
 turning-requires c κs = search needs
 
--- src/form.rt:56:1
 returns-6 : tie.Need-returns-6
 unfolding cycleForm
 returns-6 c =

@@ -1,8 +1,10 @@
-use mathlib.Core.Path.{_≡_, refl, sym, ap, _∙_}
-use mathlib.Core.Bool.{true, false, cond}
-use Prim.Native.Nat.{ℕ, _<_, _-_}
+-- The parts of the test are asked in the definition's order; the corners of the walk are those met with the last digit before the
+-- first.
+use mathlib.Core.Path.{_≡_, sym, ap, _∙_}
+use mathlib.Core.Bool.{true, cond}
+use Prim.Native.Nat.{_<_, _-_}
 use native.Mathlib.Omega.{arith}
-use lib.ListN.{length, getD, List·getD-eq-default}
+use lib.ListN.{length, List·getD-eq-default}
 use borrow.Author.Tests.{eq-eqb, ne-eqb, not-true, not-false}
 use Rattle.lattice.specs.CycleForm.{inside}
 use Rattle.paths.specs.ChainForm.{digitOf, firstEast, isAcross, lastAcross, lastByte, closes, cornersOf}
@@ -12,11 +14,6 @@ use lib.Dec.{eqb}
 use borrow.Author.Needs.{needs}
 use Rattle.paths.proofs.reading.count.Statement.{statement}
 use Rattle.paths.proofs.reading.count.Tie as tie
-use Rattle.paths.proofs.reading.count.Reads as reads
-use Rattle.paths.proofs.reading.count.Lts as lts
-use Rattle.paths.proofs.form.within.Reads as within-reads
-use Rattle.paths.proofs.reading.across.Reads as across-reads
-use Rattle.paths.proofs.reading.follow.Reads as follow-reads
 
 -- The first byte is 48.
 begins : (c : tie.Else3) → (inside (c .before .before .before .before .before .before .args .start) ≡ true) × (firstEast (c .before .before .before .before .before .before .args .bytes .now) ≡ true) × (0 < length (c .before .before .before .before .before .before .args .bytes .now))
@@ -27,27 +24,24 @@ begins c = (sym (c .before .before .before .before .within .ensures) ∙ not-fal
 finishes : (c : tie.Else4) → lastAcross (c .before .before .before .before .before .before .before .before .before .args .bytes .now) ≡ true
 unfolding lastAcross
 finishes c =
-     ap isAcross (sym (last-at (c .before .before .before .before .before .before .before .before .before .args .bytes .now) (begins (c .before .before .before) .2))) ∙ sym (c .before .across .ensures) ∙ not-false (c .before .across .result) (c .if4 .left)
+    ap isAcross (sym (last-at (c .before .before .before .before .before .before .before .before .before .args .bytes .now) (begins (c .before .before .before) .2))) ∙ sym (c .before .across .ensures) ∙ not-false (c .before .across .result) (c .if4 .left)
 
 -- What was counted.
 corners : (c : tie.After-follow) → let a = c .before .before .before .before .before .before .before .before .before .before .args in c .follow .result ≡ cond (closes (a .start) (a .bytes .now)) (length (cornersOf (a .start) (a .bytes .now))) 0
 unfolding digitOf lastAcross
 corners c =
-     let a = c .before .before .before .before .before .before .before .before .before .before .args in
-     let some = begins (c .before .before .before .before) .2 in
-     c .follow .ensures
-     ∙ ap (λ b. counted (b - 48) (a .start) (a .bytes .now)) (last-at (a .bytes .now) some)
-     ∙ counted-is (a .start) (a .bytes .now) some (across-below (lastByte (a .bytes .now)) (finishes (c .before)) .1)
+    let a = c .before .before .before .before .before .before .before .before .before .before .args in
+    let some = begins (c .before .before .before .before) .2 in
+    c .follow .ensures
+    ∙ ap (λ b. counted (b - 48) (a .start) (a .bytes .now)) (last-at (a .bytes .now) some)
+    ∙ counted-is (a .start) (a .bytes .now) some (across-below (lastByte (a .bytes .now)) (finishes (c .before)) .1)
 
--- src/reading.rt:109:9
 within-requires : tie.Need-within-requires
 within-requires c κs = search needs
 
--- src/reading.rt:110:9
 returns : tie.Need-returns
 returns c = count-outside (c .before .before .before .args .start) (c .before .before .before .args .bytes .now) (sym (c .before .within .ensures) ∙ not-true (c .before .within .result) (c .if1 .taken))
 
--- src/reading.rt:114:9
 returns-2 : tie.Need-returns-2
 unfolding firstEast
 returns-2 c =
@@ -55,30 +49,24 @@ returns-2 c =
     count-first (a .start) (a .bytes .now) (sym (c .before .before .within .ensures) ∙ not-false (c .before .before .within .result) (c .before .if1 .left))
     (ap (λ b. eqb b 48) (List·getD-eq-default (a .bytes .now) 0 {n = 0} (omega arith)))
 
--- src/reading.rt:116:8
 shared-slice-read-if3 : tie.Need-shared-slice-read-if3
 shared-slice-read-if3 c = search needs
 
--- src/reading.rt:117:9
 returns-3 : tie.Need-returns-3
 unfolding firstEast
 returns-3 c =
     let a = c .before .before .before .before .before .before .args in
     count-first (a .start) (a .bytes .now) (sym (c .before .before .before .before .within .ensures) ∙ not-false (c .before .before .before .before .within .result) (c .before .before .before .if1 .left)) (ne-eqb _ _ (c .if3 .taken))
 
--- src/reading.rt:119:22
 sub-last : tie.Need-sub-last
 sub-last c = search needs
 
--- src/reading.rt:119:16
 shared-slice-read-last : tie.Need-shared-slice-read-last
 shared-slice-read-last c = search needs
 
--- src/reading.rt:120:9
 across-requires : tie.Need-across-requires
 across-requires c κs = search needs
 
--- src/reading.rt:121:9
 returns-4 : tie.Need-returns-4
 unfolding lastAcross
 returns-4 c =
@@ -87,27 +75,23 @@ returns-4 c =
     count-last (a .start) (a .bytes .now) (b .0) (b .1)
     (ap isAcross (sym (last-at (a .bytes .now) (b .2))) ∙ sym (c .before .across .ensures) ∙ not-true (c .before .across .result) (c .if4 .taken))
 
--- src/reading.rt:123:34
 sub-follow : tie.Need-sub-follow
 unfolding lastAcross
 sub-follow c =
     let bs = c .before .before .before .before .before .before .before .before .before .args .bytes .now in
     omega (arith, across-below (lastByte bs) (finishes c), last-at bs (begins (c .before .before .before) .2))
 
--- src/reading.rt:123:9
 follow-requires : tie.Need-follow-requires
 unfolding lastAcross digitOf
 follow-requires c κs =
     let bs = c .before .before .before .before .before .before .before .before .before .args .bytes .now in
     (begins (c .before .before .before) .0, omega (arith, across-below (lastByte bs) (finishes c), last-at bs (begins (c .before .before .before) .2)))
 
--- src/reading.rt:125:9
 returns-5 : tie.Need-returns-5
 returns-5 c =
     let a = c .before .before .before .before .before .before .before .before .before .before .before .args in
     count-many (a .start) (a .bytes .now) (begins (c .before .before .before .before .before) .0) (begins (c .before .before .before .before .before) .1) (finishes (c .before .before)) (c .before .follow .result) (corners (c .before)) (c .if5 .taken)
 
--- src/reading.rt:106:1
 returns-6 : tie.Need-returns-6
 returns-6 c =
     let a = c .before .before .before .before .before .before .before .before .before .before .before .args in

@@ -1,21 +1,17 @@
+-- The loop's invariant: the bytes from i on lead back exactly if all do, and the corners met and those left are all corners. The
+-- measure: the bytes left.
 use mathlib.Core.Bool.{true}
 use lib.Dec.{eqb}
 use borrow.Author.Tests.{not-true, not-false}
 use Rattle.paths.specs.ChainForm.{digitOf, allowed}
 use Rattle.paths.specs.Reading.{Following, Allowed, allowed-says, digit-below, follow-begin, follow-on, follow-off, follow-open, follow-end, one-at-most}
-use mathlib.Core.Path.{_≡_, refl, sym, ap, _∙_}
-use mathlib.Core.Logic.{⊎-elim}
-use Prim.Native.Nat.{ℕ, _≤_, _<_, _-_, _+_}
+use mathlib.Core.Path.{_≡_, sym, _∙_}
+use Prim.Native.Nat.{_-_}
 use native.Mathlib.Omega.{arith}
-use lib.ListN.{length, take, drop, getD, set}
+use lib.ListN.{length, getD}
 use borrow.Author.Needs.{needs}
 use Rattle.paths.proofs.reading.follow.Statement.{statement}
 use Rattle.paths.proofs.reading.follow.Tie as tie
-use Rattle.paths.proofs.reading.follow.Reads as reads
-use Rattle.paths.proofs.reading.follow.Lts as lts
-use Rattle.paths.proofs.reading.may_follow.Reads as may-follow-reads
-use Rattle.paths.proofs.reading.moved.Reads as moved-reads
-use Rattle.paths.proofs.reading.turned.Reads as turned-reads
 
 abbrev Inv-loop : tie.InvT-loop
 Inv-loop start bytes last p₀ d₀ n₀ i₀ p d n i = Following last start bytes i p d n
@@ -30,65 +26,50 @@ fine c = sym (c .before .may-follow .ensures) ∙ not-false (c .before .may-foll
 byte : (c : tie.Else1 Inv-loop μ-loop) → Allowed (c .before .before .before .before .loop .d) (c .before .before .before .before .loop .p) (getD (c .before .before .before .before .before .before .args .bytes .now) (c .before .before .before .before .loop .i) 0)
 byte c = allowed-says (c .before .before .before .before .loop .d) (c .before .before .before .before .loop .p) (getD (c .before .before .before .before .before .before .args .bytes .now) (c .before .before .before .before .loop .i) 0) (fine c)
 
--- src/reading.rt:79:5
 loop-holds : tie.Need-loop-holds Inv-loop μ-loop
 loop-holds c = follow-begin (c .before .args .last) (c .before .args .start) (c .before .args .bytes .now) (c .before .pre .0) (c .before .pre .1)
 
--- src/reading.rt:80:17
 shared-slice-read-b : tie.Need-shared-slice-read-b Inv-loop μ-loop
 shared-slice-read-b c = search needs
 
--- src/reading.rt:81:13
 may-follow-requires : tie.Need-may-follow-requires Inv-loop μ-loop
 may-follow-requires c κs = c .before .before .loop .inv .known
 
--- src/reading.rt:82:13
 returns : tie.Need-returns Inv-loop μ-loop
 returns c = follow-off (c .before .before .before .before .loop .inv) (c .before .before .before .loop-test .taken) (sym (c .before .may-follow .ensures) ∙ not-true (c .before .may-follow .result) (c .if1 .taken))
 
--- src/reading.rt:84:24
 sub-turned : tie.Need-sub-turned Inv-loop μ-loop
 sub-turned c = omega (arith, byte c .low)
 
--- src/reading.rt:84:14
 turned-requires : tie.Need-turned-requires Inv-loop μ-loop
 turned-requires c κs = search needs
 
--- src/reading.rt:84:9
 add-n : tie.Need-add-n Inv-loop μ-loop
 add-n c = omega (arith, c .before .before .before .before .before .loop .inv .few, one-at-most (c .turned .result) (eqb (c .before .before .before .before .before .loop .d) (getD (c .before .before .before .before .before .before .before .args .bytes .now) (c .before .before .before .before .before .loop .i) 0 - 48)) (c .turned .ensures))
 
--- src/reading.rt:85:22
 sub-moved : tie.Need-sub-moved Inv-loop μ-loop
 sub-moved c = omega (arith, byte (c .before) .low)
 
--- src/reading.rt:85:9
 moved-requires : tie.Need-moved-requires Inv-loop μ-loop
 unfolding digitOf
 moved-requires c κs = (digit-below (byte (c .before)), c .before .before .before .before .before .loop .inv .here, byte (c .before) .stays)
 
--- src/reading.rt:86:13
 sub-d : tie.Need-sub-d Inv-loop μ-loop
 sub-d c = omega (arith, byte (c .before .before) .low)
 
--- src/reading.rt:87:9
 add-i : tie.Need-add-i Inv-loop μ-loop
 add-i c = search needs
 
--- src/reading.rt:79:5
 loop-less : tie.Need-loop-less Inv-loop μ-loop
 loop-less c = omega arith
 
--- src/reading.rt:79:5
 loop-again : tie.Need-loop-again Inv-loop μ-loop
 unfolding digitOf
 loop-again c = follow-on (c .before .before .before .before .before .before .loop .inv) (c .moved .result) (c .before .turned .result) (c .before .before .before .before .before .loop-test .taken) (fine (c .before .before)) (c .moved .ensures) (c .before .turned .ensures)
 
--- src/reading.rt:90:9
 returns-2 : tie.Need-returns-2 Inv-loop μ-loop
 returns-2 c = follow-end (c .before .before .loop .inv) (c .before .loop-test .left) (c .if2 .taken)
 
--- src/reading.rt:71:1
 returns-3 : tie.Need-returns-3 Inv-loop μ-loop
 returns-3 c = follow-open (c .before .before .loop .inv) (c .before .loop-test .left) (c .if2 .left)
 

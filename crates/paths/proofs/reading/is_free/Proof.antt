@@ -1,29 +1,23 @@
-use mathlib.Core.Path.{_≡_, refl, sym, ap, _∙_}
+-- The digit tells which coordinate is compared.
+use mathlib.Core.Path.{_≡_, sym, ap}
 use native.Mathlib.Omega.{arith}
 use Rattle.lattice.specs.Directions.{xOf, yOf}
 use Rattle.paths.specs.ChainForm.{free}
-use borrow.Author.Needs.{needs}
 use Rattle.paths.proofs.reading.is_free.Statement.{statement}
 use Rattle.paths.proofs.reading.is_free.Tie as tie
-use Rattle.paths.proofs.reading.is_free.Reads as reads
-use Rattle.paths.proofs.reading.is_free.Lts as lts
 
--- src/reading.rt:17:1
 returns : tie.Need-returns
 unfolding free xOf yOf
 returns c = sym (ap (λ d. free d (c .before .args .p)) (c .match .keys1))
 
--- src/reading.rt:17:1
 returns-2 : tie.Need-returns-2
 unfolding free xOf yOf
 returns-2 c = sym (ap (λ d. free d (c .before .args .p)) (c .match .keys2))
 
--- src/reading.rt:17:1
 returns-3 : tie.Need-returns-3
 unfolding free xOf yOf
 returns-3 c = sym (ap (λ d. free d (c .before .args .p)) (c .match .keys3))
 
--- src/reading.rt:17:1
 returns-4 : tie.Need-returns-4
 unfolding free xOf yOf
 returns-4 c =

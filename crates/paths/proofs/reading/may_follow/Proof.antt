@@ -1,6 +1,6 @@
-use mathlib.Core.Path.{_≡_, refl, sym, ap, _∙_}
+-- A digit, not two right turns from the one before, and a unit that stays within.
+use mathlib.Core.Path.{sym, ap, _∙_}
 use Prim.Native.Nat.{_-_}
-use native.Mathlib.Omega.{arith}
 use borrow.Author.Tests.{eq-eqb, ne-eqb, le-leb, lt-leb}
 use Rattle.lattice.specs.Directions.{rightOf, opposite}
 use Rattle.paths.specs.ChainForm.{allowed, isDigit, digitOf}
@@ -8,30 +8,21 @@ use Rattle.paths.specs.Reading.{two-right}
 use borrow.Author.Needs.{needs}
 use Rattle.paths.proofs.reading.may_follow.Statement.{statement}
 use Rattle.paths.proofs.reading.may_follow.Tie as tie
-use Rattle.paths.proofs.reading.may_follow.Reads as reads
-use Rattle.paths.proofs.reading.may_follow.Lts as lts
-use Rattle.lattice.proofs.right.Reads as right-reads
-use Rattle.paths.proofs.reading.is_free.Reads as is-free-reads
 
--- src/reading.rt:35:9
 returns : tie.Need-returns
 unfolding allowed isDigit
 returns c = simp (lt-leb 48 (c .before .args .b) (c .if1 .taken))
 
--- src/reading.rt:38:9
 returns-2 : tie.Need-returns-2
 unfolding allowed isDigit
 returns-2 c = simp (le-leb 48 (c .before .before .args .b) (c .before .if1 .left), lt-leb (c .before .before .args .b) 51 (c .if2 .taken))
 
--- src/reading.rt:40:22
 right-requires : tie.Need-right-requires
 right-requires c κs = search needs
 
--- src/reading.rt:40:9
 right-requires-2 : tie.Need-right-requires-2
 right-requires-2 c κs = search needs
 
--- src/reading.rt:42:9
 returns-3 : tie.Need-returns-3
 unfolding allowed isDigit digitOf
 returns-3 c =
@@ -39,11 +30,9 @@ returns-3 c =
     let back = c .before .right2 .ensures ∙ ap rightOf (c .before .before .right .ensures) ∙ two-right (a .d) (c .before .before .before .before .before .pre) in
     simp (le-leb 48 (a .b) (c .before .before .before .before .if1 .left), le-leb (a .b) 51 (c .before .before .before .if2 .left), eq-eqb (a .b - 48) (opposite (a .d)) (c .if3 .taken ∙ back))
 
--- src/reading.rt:44:5
 is-free-requires : tie.Need-is-free-requires
 is-free-requires c κs = search needs
 
--- src/reading.rt:30:1
 returns-4 : tie.Need-returns-4
 unfolding allowed isDigit digitOf
 returns-4 c =

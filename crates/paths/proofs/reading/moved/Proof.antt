@@ -1,50 +1,40 @@
-use mathlib.Core.Path.{_≡_, refl, sym, ap, _∙_}
+-- The digit tells the move; a free unit does not leave the numbers.
+use mathlib.Core.Path.{_≡_, sym, ap}
 use native.Mathlib.Omega.{arith}
 use Rattle.lattice.specs.Directions.{move, xOf, yOf}
 use Rattle.lattice.specs.CycleForm.{inside-says}
 use Rattle.paths.specs.Reading.{free-says}
-use borrow.Author.Needs.{needs}
 use Rattle.paths.proofs.reading.moved.Statement.{statement}
 use Rattle.paths.proofs.reading.moved.Tie as tie
-use Rattle.paths.proofs.reading.moved.Reads as reads
-use Rattle.paths.proofs.reading.moved.Lts as lts
 
--- src/reading.rt:53:14
 add-result : tie.Need-add-result
 unfolding xOf yOf
 add-result c = omega (arith, inside-says (c .before .args .p) (c .before .pre .1))
 
--- src/reading.rt:54:14
 sub-result : tie.Need-sub-result
 unfolding xOf yOf
 sub-result c = omega (arith, free-says (c .before .args .d) (c .before .args .p) (c .before .pre .0) (c .before .pre .2) .north (c .match .keys2))
 
--- src/reading.rt:55:14
 sub-result-2 : tie.Need-sub-result-2
 unfolding xOf yOf
 sub-result-2 c = omega (arith, free-says (c .before .args .d) (c .before .args .p) (c .before .pre .0) (c .before .pre .2) .west (c .match .keys3))
 
--- src/reading.rt:56:14
 add-result-2 : tie.Need-add-result-2
 unfolding xOf yOf
 add-result-2 c = omega (arith, inside-says (c .before .args .p) (c .before .pre .1))
 
--- src/reading.rt:48:1
 returns : tie.Need-returns
 unfolding move
 returns c = sym (ap (λ d. move d (c .before .args .p)) (c .match .keys1))
 
--- src/reading.rt:48:1
 returns-2 : tie.Need-returns-2
 unfolding move
 returns-2 c = sym (ap (λ d. move d (c .before .args .p)) (c .match .keys2))
 
--- src/reading.rt:48:1
 returns-3 : tie.Need-returns-3
 unfolding move
 returns-3 c = sym (ap (λ d. move d (c .before .args .p)) (c .match .keys3))
 
--- src/reading.rt:48:1
 returns-4 : tie.Need-returns-4
 unfolding move
 returns-4 c =

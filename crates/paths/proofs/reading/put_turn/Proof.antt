@@ -1,33 +1,26 @@
+-- The point is stored exactly where the digit changes.
 use mathlib.Core.Path.{refl}
 use native.Mathlib.Omega.{arith}
 use borrow.Author.Tests.{eq-eqb, ne-eqb}
 use borrow.Author.Needs.{needs}
 use Rattle.paths.proofs.reading.put_turn.Statement.{statement}
 use Rattle.paths.proofs.reading.put_turn.Tie as tie
-use Rattle.paths.proofs.reading.put_turn.Reads as reads
-use Rattle.paths.proofs.reading.put_turn.Lts as lts
 
--- src/reading.rt:132:9
 returns : tie.Need-returns
 returns c = simp (eq-eqb _ _ (c .if1 .taken)) (refl, refl)
 
--- src/reading.rt:134:5
 mul-corners : tie.Need-mul-corners
 mul-corners c = omega (arith, c .before .pre (c .if1 .left))
 
--- src/reading.rt:134:5
 slice-write-corners : tie.Need-slice-write-corners
 slice-write-corners c = c .before .pre (c .if1 .left)
 
--- src/reading.rt:135:5
 add-result : tie.Need-add-result
 add-result c = omega (arith, c .before .pre (c .if1 .left))
 
--- src/reading.rt:127:1
 same-length : tie.Need-same-length
 same-length c = search needs
 
--- src/reading.rt:127:1
 returns-2 : tie.Need-returns-2
 returns-2 c = simp (ne-eqb _ _ (c .if1 .left)) (refl, refl)
 

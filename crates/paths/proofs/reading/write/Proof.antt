@@ -1,18 +1,13 @@
-use mathlib.Core.Bool.{true}
-use Rattle.paths.specs.ChainForm.{digitOf, allowed}
+-- The loop's invariant: the corners written and those that the bytes from i on will give are all corners. The measure: the bytes
+-- left.
+use Rattle.paths.specs.ChainForm.{digitOf}
 use Rattle.paths.specs.Reading.{Drawing, Allowed, allowed-says, digit-below, draw-begin, draws, draw-room, draw-on, draw-end}
-use mathlib.Core.Path.{_≡_, refl, sym, ap, _∙_}
-use mathlib.Core.Logic.{⊎-elim}
-use Prim.Native.Nat.{ℕ, _≤_, _<_, _-_, _+_}
+use Prim.Native.Nat.{_-_}
 use native.Mathlib.Omega.{arith}
-use lib.ListN.{length, take, drop, getD, set}
+use lib.ListN.{length, getD}
 use borrow.Author.Needs.{needs}
 use Rattle.paths.proofs.reading.write.Statement.{statement}
 use Rattle.paths.proofs.reading.write.Tie as tie
-use Rattle.paths.proofs.reading.write.Reads as reads
-use Rattle.paths.proofs.reading.write.Lts as lts
-use Rattle.paths.proofs.reading.moved.Reads as moved-reads
-use Rattle.paths.proofs.reading.put_turn.Reads as put-turn-reads
 
 abbrev Inv-loop : tie.InvT-loop
 Inv-loop start bytes last corners₀ p₀ d₀ at₀ i₀ corners p d at i = Drawing last start bytes corners₀ corners i p d at
@@ -24,48 +19,38 @@ abbrev μ-loop : tie.MeasureT-loop
 byte : (c : tie.In-loop Inv-loop μ-loop) → Allowed (c .before .loop .d) (c .before .loop .p) (getD (c .before .before .before .before .args .bytes .now) (c .before .loop .i) 0)
 byte c = allowed-says (c .before .loop .d) (c .before .loop .p) (getD (c .before .before .before .before .args .bytes .now) (c .before .loop .i) 0) (draws (c .before .loop .inv) (c .loop-test .taken))
 
--- src/reading.rt:147:5
 loop-holds : tie.Need-loop-holds Inv-loop μ-loop
 loop-holds c = draw-begin (c .before .before .args .last) (c .before .before .args .start) (c .before .before .args .bytes .now) (c .before .before .args .corners .now) (c .before .before .pre .0) (c .before .before .pre .1) (c .before .before .pre .2)
 
--- src/reading.rt:148:17
 shared-slice-read-e : tie.Need-shared-slice-read-e Inv-loop μ-loop
 shared-slice-read-e c = search needs
 
--- src/reading.rt:148:17
 sub-e : tie.Need-sub-e Inv-loop μ-loop
 sub-e c = omega (arith, byte (c .before) .low)
 
--- src/reading.rt:149:9
 put-turn-requires : tie.Need-put-turn-requires Inv-loop μ-loop
 unfolding digitOf
 put-turn-requires c κs = draw-room (c .before .before .before .loop .inv) (c .before .before .loop-test .taken) (c .before .before .before .before .before .before .pre .3)
 
--- src/reading.rt:150:9
 moved-requires : tie.Need-moved-requires Inv-loop μ-loop
 unfolding digitOf
 moved-requires c κs = (digit-below (byte (c .before .before .before .before .before)), c .before .before .before .before .before .before .loop .inv .here, byte (c .before .before .before .before .before) .stays)
 
--- src/reading.rt:152:9
 add-i : tie.Need-add-i Inv-loop μ-loop
 add-i c = search needs
 
--- src/reading.rt:147:5
 loop-less : tie.Need-loop-less Inv-loop μ-loop
 loop-less c = omega arith
 
--- src/reading.rt:147:5
 loop-again : tie.Need-loop-again Inv-loop μ-loop
 unfolding digitOf
 loop-again c =
     let t = c .before .before .before .put-turn in
     draw-on (c .before .before .before .before .before .before .before .loop .inv) (c .before .before .before .before .before .before .loop-test .taken) (t .last .0) (c .moved .result) (t .result) (c .before .before .before .before .before .before .before .before .before .before .pre .3) (c .moved .ensures) (t .ensures .0) (t .ensures .1)
 
--- src/reading.rt:139:1
 same-length : tie.Need-same-length Inv-loop μ-loop
 same-length c = c .before .loop .inv .list .long
 
--- src/reading.rt:139:1
 returns : tie.Need-returns Inv-loop μ-loop
 returns c = draw-end (c .before .loop .inv) (c .loop-test .left)
 

@@ -1,4 +1,5 @@
-use mathlib.Core.Path.{_≡_, refl, sym, ap, _∙_}
+-- The place tells the word: the first, then V at even places and H at odd ones.
+use mathlib.Core.Path.{ap}
 use mathlib.Core.List.{_∷_}
 use Prim.Native.Nat.{_%_, _/_}
 use native.Mathlib.Omega.{arith}
@@ -10,46 +11,33 @@ use Rattle.paths.specs.Stores.{put-same}
 use borrow.Author.Needs.{needs}
 use Rattle.paths.proofs.text.put_corner.Statement.{statement}
 use Rattle.paths.proofs.text.put_corner.Tie as tie
-use Rattle.paths.proofs.text.put_corner.Reads as reads
-use Rattle.paths.proofs.text.put_corner.Lts as lts
-use Rattle.paths.proofs.text.put_first.Reads as put-first-reads
-use Rattle.paths.proofs.text.put_number.Reads as put-number-reads
 
--- src/text.rt:49:9
 put-first-requires : tie.Need-put-first-requires
 put-first-requires c κs = search needs
 
--- src/text.rt:49:9
 same-length : tie.Need-same-length
 same-length c = search needs
 
--- src/text.rt:49:9
 returns : tie.Need-returns
 returns c = let a = c .before .before .before .before .before .before .args in put-same (word 0 (a .c)) (word (a .i) (a .c)) (ap (λ i. word i (a .c)) (c .before .before .before .before .if1 .taken)) (c .before .before .put-first .ensures)
 
--- src/text.rt:52:9
 put-number-requires : tie.Need-put-number-requires
 unfolding yOf
 put-number-requires c κs = omega (arith, inside-says (c .before .before .before .before .args .c) (c .before .before .before .before .pre .1))
 
--- src/text.rt:52:9
 same-length-2 : tie.Need-same-length-2
 same-length-2 c = search needs
 
--- src/text.rt:52:9
 returns-2 : tie.Need-returns-2
 unfolding yOf
 returns-2 c = let a = c .before .before .before .before .before .before .before .args in put-same (86 ∷ decimal (a .c / 512)) (word (a .i) (a .c)) (word-even (a .i) (a .c) (c .before .before .before .before .before .if1 .left) (c .before .before .before .before .if2 .taken)) (c .before .before .put-number .ensures)
 
--- src/text.rt:54:5
 put-number-requires-2 : tie.Need-put-number-requires-2
 put-number-requires-2 c κs = search needs
 
--- src/text.rt:44:1
 same-length-3 : tie.Need-same-length-3
 same-length-3 c = search needs
 
--- src/text.rt:44:1
 returns-3 : tie.Need-returns-3
 unfolding xOf
 returns-3 c = let a = c .before .before .before .before .before .before .before .args in put-same (72 ∷ decimal (a .c % 512)) (word (a .i) (a .c)) (word-odd (a .i) (a .c) (omega arith)) (c .before .before .put-number2 .ensures)

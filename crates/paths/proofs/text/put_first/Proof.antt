@@ -1,3 +1,4 @@
+-- M with x, and then the space with y in the tail that is lent: two pieces laid one after the other.
 use mathlib.Core.List.{_∷_}
 use Prim.Native.Nat.{_%_, _/_}
 use native.Mathlib.Omega.{arith}
@@ -9,45 +10,37 @@ use Rattle.paths.specs.Stores.{number-short, put-both}
 use borrow.Author.Needs.{needs}
 use Rattle.paths.proofs.text.put_first.Statement.{statement}
 use Rattle.paths.proofs.text.put_first.Tie as tie
-use Rattle.paths.proofs.text.put_first.Reads as reads
-use Rattle.paths.proofs.text.put_first.Lts as lts
-use Rattle.paths.proofs.text.put_number.Reads as put-number-reads
 
--- src/text.rt:38:9
 put-number-requires : tie.Need-put-number-requires
 put-number-requires c κs = search needs
 
--- src/text.rt:39:24
 sub-put-number : tie.Need-sub-put-number
 sub-put-number c = let p = c .before .before .put-number in omega (arith, number-short 77 (c .before .before .before .before .before .args .c % 512) (p .result) (omega arith) (p .ensures .count-is), p .kept .0)
 
--- src/text.rt:39:24
 part-put-number-start : tie.Need-part-put-number-start
 part-put-number-start c = let p = c .before .before .put-number in omega (arith, number-short 77 (c .before .before .before .before .before .args .c % 512) (p .result) (omega arith) (p .ensures .count-is), p .kept .0)
 
--- src/text.rt:39:24
 part-put-number-end : tie.Need-part-put-number-end
 part-put-number-end c = search needs
 
--- src/text.rt:39:9
 put-number-requires-2 : tie.Need-put-number-requires-2
 unfolding yOf
 put-number-requires-2 c κs = let p = c .before .before .before .put-number in omega (arith, number-short 77 (c .before .before .before .before .before .before .args .c % 512) (p .result) (omega arith) (p .ensures .count-is), p .kept .0, inside-says (c .before .before .before .before .before .before .args .c) (c .before .before .before .before .before .before .pre .1))
 
--- src/text.rt:40:5
 add-result : tie.Need-add-result
 unfolding yOf
 add-result c =
     let p = c .before .before .before .before .before .before .put-number in
     let q = c .before .before .put-number2 in
-    omega (arith, number-short 77 (c .before .before .before .before .before .before .before .before .before .args .c % 512) (p .result) (omega arith) (p .ensures .count-is),
-      number-short 32 (c .before .before .before .before .before .before .before .before .before .args .c / 512) (q .result) (omega (arith, inside-says (c .before .before .before .before .before .before .before .before .before .args .c) (c .before .before .before .before .before .before .before .before .before .pre .1))) (q .ensures .count-is))
+    omega (
+      arith,
+      number-short 77 (c .before .before .before .before .before .before .before .before .before .args .c % 512) (p .result) (omega arith) (p .ensures .count-is),
+      number-short 32 (c .before .before .before .before .before .before .before .before .before .args .c / 512) (q .result) (omega (arith, inside-says (c .before .before .before .before .before .before .before .before .before .args .c) (c .before .before .before .before .before .before .before .before .before .pre .1))) (q .ensures .count-is),
+    )
 
--- src/text.rt:34:1
 same-length : tie.Need-same-length
 same-length c = search needs
 
--- src/text.rt:34:1
 returns : tie.Need-returns
 unfolding word xOf yOf
 returns c =

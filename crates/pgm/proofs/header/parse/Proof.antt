@@ -1,11 +1,73 @@
 -- The steps of the definition, one after the other: those passed leave the rest to the next, and the first refused one refuses it all.
-use mathlib.Core.Path.{sym, _∙_}
+use mathlib.Core.Path.{_≡_, sym, _∙_}
+use mathlib.Core.List.{List}
+use Prim.Native.Nat.{ℕ}
 use native.Mathlib.Omega.{arith}
-use Rattle.pgm.specs.Header.{header}
+use lib.ListN.{drop}
+use Rattle.pgm.specs.Parser.{Parser, give, _>>=_, _>>_}
+use Rattle.pgm.specs.Space.{space}
+use Rattle.pgm.specs.Header.{Fields, field, header}
 use Rattle.pgm.proofs.Sequence.{past-bad, past-on, past-inside, number-bad, number-on}
 use borrow.Author.Needs.{needs}
 use Rattle.pgm.proofs.header.parse.Statement.{statement}
 use Rattle.pgm.proofs.header.parse.Tie as tie
+
+-- What is left of the header once a step is passed.
+abbrev after-maxval : ℕ → ℕ → ℕ → Parser Fields
+after-maxval w h m = do
+  space
+  give (record { width = w; height = h; maxval = m })
+
+abbrev after-height : ℕ → ℕ → Parser Fields
+after-height w h = do
+  m ← field
+  after-maxval w h m
+
+abbrev after-width : ℕ → Parser Fields
+after-width w = do
+  h ← field
+  after-height w h
+
+abbrev after-magic : Parser Fields
+after-magic = do
+  w ← field
+  after-width w
+
+-- The bytes, at the places past the magic, the width, the height and maxval.
+abbrev bytes1 : tie.After-known-told → List ℕ
+bytes1 c = c .before .before .before .before .before .args .bytes .now
+
+abbrev bytes2 : tie.After-known-told2 → List ℕ
+bytes2 c = bytes1 (c .before .before .before .before)
+
+abbrev bytes3 : tie.After-known-told3 → List ℕ
+bytes3 c = bytes2 (c .before .before .before .before)
+
+abbrev bytes4 : tie.After-known-told4 → List ℕ
+bytes4 c = bytes3 (c .before .before .before .before)
+
+passed-magic : (c : tie.After-known-told) → header (bytes1 c) ≡ after-magic (drop (c .before .c .given .0 .0 .at) (bytes1 c))
+unfolding header
+passed-magic c = past-on (c .before .before .before .magic .ensures) (c .before .c .given .1) _
+
+passed-width : (c : tie.After-known-told2) → header (bytes2 c) ≡ after-width (c .before .width .given .0 .0) (drop (c .before .width .given .0 .1 .0 .at) (bytes2 c))
+passed-width c = passed-magic (c .before .before .before .before) ∙ number-on (c .before .before .before .field .ensures) (c .before .width .given .1) _
+
+passed-height :
+    (c : tie.After-known-told3)
+    → header (bytes3 c)
+    ≡ after-height (c .before .before .before .before .before .width .given .0 .0) (c .before .height .given .0 .0) (drop (c .before .height .given .0 .1 .0 .at) (bytes3 c))
+passed-height c = passed-width (c .before .before .before .before) ∙ number-on (c .before .before .before .field2 .ensures) (c .before .height .given .1) _
+
+passed-maxval :
+    (c : tie.After-known-told4)
+    → header (bytes4 c)
+    ≡ after-maxval
+    (c .before .before .before .before .before .before .before .before .before .width .given .0 .0)
+    (c .before .before .before .before .before .height .given .0 .0)
+    (c .before .maxval .given .0 .0)
+    (drop (c .before .maxval .given .0 .1 .0 .at) (bytes4 c))
+passed-maxval c = passed-height (c .before .before .before .before) ∙ number-on (c .before .before .before .field3 .ensures) (c .before .maxval .given .1) _
 
 magic-requires : tie.Need-magic-requires
 magic-requires c κs = search needs
@@ -30,10 +92,9 @@ enum-told-2 : tie.Need-enum-told-2
 enum-told-2 c = search needs
 
 returns-2 : tie.Need-returns-2
-unfolding header
 returns-2 c =
     record {
-      says = sym (past-on (c .before .before .before .before .before .before .magic .ensures) (c .before .before .before .before .c .given .1) _ ∙ number-bad (c .before .before .field .ensures) (c .enum-told2 .given .1) _);
+      says = sym (passed-magic (c .before .before .before) ∙ number-bad (c .before .before .field .ensures) (c .enum-told2 .given .1) _);
       inside = omega arith;
     }
 
@@ -47,14 +108,9 @@ enum-told-3 : tie.Need-enum-told-3
 enum-told-3 c = search needs
 
 returns-3 : tie.Need-returns-3
-unfolding header
 returns-3 c =
     record {
-      says =
-          sym
-          (past-on (c .before .before .before .before .before .before .before .before .before .before .magic .ensures) (c .before .before .before .before .before .before .before .before .c .given .1) _
-          ∙ number-on (c .before .before .before .before .before .before .field .ensures) (c .before .before .before .before .width .given .1) _
-          ∙ number-bad (c .before .before .field2 .ensures) (c .enum-told3 .given .1) _);
+      says = sym (passed-width (c .before .before .before) ∙ number-bad (c .before .before .field2 .ensures) (c .enum-told3 .given .1) _);
       inside = omega arith;
     }
 
@@ -68,15 +124,9 @@ enum-told-4 : tie.Need-enum-told-4
 enum-told-4 c = search needs
 
 returns-4 : tie.Need-returns-4
-unfolding header
 returns-4 c =
     record {
-      says =
-          sym
-          (past-on (c .before .before .before .before .before .before .before .before .before .before .before .before .before .before .magic .ensures) (c .before .before .before .before .before .before .before .before .before .before .before .before .c .given .1) _
-          ∙ number-on (c .before .before .before .before .before .before .before .before .before .before .field .ensures) (c .before .before .before .before .before .before .before .before .width .given .1) _
-          ∙ number-on (c .before .before .before .before .before .before .field2 .ensures) (c .before .before .before .before .height .given .1) _
-          ∙ number-bad (c .before .before .field3 .ensures) (c .enum-told4 .given .1) _);
+      says = sym (passed-height (c .before .before .before) ∙ number-bad (c .before .before .field3 .ensures) (c .enum-told4 .given .1) _);
       inside = omega arith;
     }
 
@@ -90,30 +140,16 @@ enum-told-5 : tie.Need-enum-told-5
 enum-told-5 c = search needs
 
 returns-5 : tie.Need-returns-5
-unfolding header
 returns-5 c =
     record {
-      says =
-          sym
-          (past-on (c .before .before .before .before .before .before .before .before .before .before .before .before .before .before .before .before .before .before .magic .ensures) (c .before .before .before .before .before .before .before .before .before .before .before .before .before .before .before .before .c .given .1) _
-          ∙ number-on (c .before .before .before .before .before .before .before .before .before .before .before .before .before .before .field .ensures) (c .before .before .before .before .before .before .before .before .before .before .before .before .width .given .1) _
-          ∙ number-on (c .before .before .before .before .before .before .before .before .before .before .field2 .ensures) (c .before .before .before .before .before .before .before .before .height .given .1) _
-          ∙ number-on (c .before .before .before .before .before .before .field3 .ensures) (c .before .before .before .before .maxval .given .1) _
-          ∙ past-bad (c .before .before .space .ensures) (c .enum-told5 .given .1) _);
+      says = sym (passed-maxval (c .before .before .before) ∙ past-bad (c .before .before .space .ensures) (c .enum-told5 .given .1) _);
       inside = omega arith;
     }
 
 returns-6 : tie.Need-returns-6
-unfolding header
 returns-6 c =
     record {
-      says =
-          sym
-          (past-on (c .before .before .before .before .before .before .before .before .before .before .before .before .before .before .before .before .before .before .before .magic .ensures) (c .before .before .before .before .before .before .before .before .before .before .before .before .before .before .before .before .before .c .given .1) _
-          ∙ number-on (c .before .before .before .before .before .before .before .before .before .before .before .before .before .before .before .field .ensures) (c .before .before .before .before .before .before .before .before .before .before .before .before .before .width .given .1) _
-          ∙ number-on (c .before .before .before .before .before .before .before .before .before .before .before .field2 .ensures) (c .before .before .before .before .before .before .before .before .before .height .given .1) _
-          ∙ number-on (c .before .before .before .before .before .before .before .field3 .ensures) (c .before .before .before .before .before .maxval .given .1) _
-          ∙ past-on (c .before .before .before .space .ensures) (c .before .raster .given .1) _);
+      says = sym (passed-maxval (c .before .before .before .before) ∙ past-on (c .before .before .before .space .ensures) (c .before .raster .given .1) _);
       inside = past-inside (c .before .before .before .space .ensures) (c .before .raster .given .1);
     }
 

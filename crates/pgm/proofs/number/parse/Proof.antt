@@ -20,7 +20,9 @@ abbrev μ-loop : tie.MeasureT-loop
 μ-loop bytes count₀ value₀ at₀ count value at = length bytes - at
 
 -- Past the first test the byte is a digit, and what was read before it is a number of at most 5 digits.
-digit : (c : tie.Else1 Inv-loop μ-loop) → isDigit (getD (c .before .before .before .before .before .before .args .bytes .now) (c .before .before .before .before .loop .at) 0) ≡ true
+digit :
+    (c : tie.Else1 Inv-loop μ-loop)
+    → isDigit (getD (c .before .before .before .before .before .before .args .bytes .now) (c .before .before .before .before .loop .at) 0) ≡ true
 digit c = sym (c .before .is-digit .ensures) ∙ not-false _ (c .if1 .left)
 
 below : (c : tie.Else1 Inv-loop μ-loop) → c .before .before .before .before .loop .value < 100000
@@ -41,7 +43,8 @@ stop-requires c κs = search needs
 returns : tie.Need-returns Inv-loop μ-loop
 returns c =
     rw (c .stop .ensures)
-    (finish (c .before .before .before .before .before .loop .inv) (c .before .before .before .before .loop-test .taken) (sym (c .before .before .is-digit .ensures) ∙ not-true _ (c .before .if1 .taken)))
+    (finish (c .before .before .before .before .before .loop .inv) (c .before .before .before .before .loop-test .taken)
+    (sym (c .before .before .is-digit .ensures) ∙ not-true _ (c .before .if1 .taken)))
 
 returns-2 : tie.Need-returns-2 Inv-loop μ-loop
 returns-2 c =

@@ -9,7 +9,11 @@ use Rattle.pgm.proofs.space.space.Tie as tie
 
 returns : tie.Need-returns
 unfolding space
-returns c = record { says = sym (byte-end _ _ (c .if1 .taken) _); inside = omega arith }
+returns c =
+    record {
+      says = sym (byte-end _ _ (c .if1 .taken) _);
+      inside = omega arith;
+    }
 
 shared-slice-read-is-space : tie.Need-shared-slice-read-is-space
 shared-slice-read-is-space c = search needs
@@ -22,11 +26,19 @@ add-t10 c = search needs
 
 returns-2 : tie.Need-returns-2
 unfolding space
-returns-2 c = record { says = sym (byte-yes _ _ (c .before .before .before .if1 .left) _ (sym (c .before .is-space .ensures) ∙ c .if2 .taken)); inside = omega arith }
+returns-2 c =
+    record {
+      says = sym (byte-yes _ _ (c .before .before .before .if1 .left) _ (sym (c .before .is-space .ensures) ∙ c .if2 .taken));
+      inside = omega arith;
+    }
 
 returns-3 : tie.Need-returns-3
 unfolding space
-returns-3 c = record { says = sym (byte-no _ _ (c .before .before .before .if1 .left) _ (sym (c .before .is-space .ensures) ∙ c .if2 .left)); inside = omega arith }
+returns-3 c =
+    record {
+      says = sym (byte-no _ _ (c .before .before .before .if1 .left) _ (sym (c .before .is-space .ensures) ∙ c .if2 .left));
+      inside = omega arith;
+    }
 
 pub space-spec : {M : Type 1} → statement M
 space-spec =

@@ -19,14 +19,22 @@ enum-told c = search needs
 
 returns : tie.Need-returns
 unfolding spaces
-returns c = record { says = sym (past-bad (c .before .before .space .ensures) (c .enum-told .given .1) _); inside = omega arith }
+returns c =
+    record {
+      says = sym (past-bad (c .before .before .space .ensures) (c .enum-told .given .1) _);
+      inside = omega arith;
+    }
 
 trim-requires : tie.Need-trim-requires
 trim-requires c κs = past-inside (c .before .before .before .space .ensures) (c .before .next .given .1)
 
 returns-2 : tie.Need-returns-2
 unfolding spaces
-returns-2 c = record { says = ap (got tt) (c .trim .ensures .0) ∙ sym (past-on (c .before .before .before .before .space .ensures) (c .before .before .next .given .1) _); inside = c .trim .ensures .1 }
+returns-2 c =
+    record {
+      says = ap (got tt) (c .trim .ensures .0) ∙ sym (past-on (c .before .before .before .before .space .ensures) (c .before .before .next .given .1) _);
+      inside = c .trim .ensures .1;
+    }
 
 pub spaces-spec : {M : Type 1} → statement M
 spaces-spec =

@@ -1,0 +1,112 @@
+//! Block lists: the check, raster to blocks, blocks to raster.
+
+use super::location::place;
+use crate::answers::Written;
+
+/// Causes 1 to 7, in one pass over the blocks.
+pub fn check(n: u32, codes: &[u32], levels: &[u8], colours: &[u8]) -> u32 {
+    if n > 8 {
+        return 1;
+    }
+    if codes.len() != levels.len() || levels.len() != colours.len() {
+        return 2;
+    }
+    let whole = 1 << (2 * n);
+    let mut sum = 0;
+    // How many blocks up to here have one level and one colour, and whether four of them are siblings.
+    let (mut run, mut before, mut siblings) = (0, (u32::MAX, 0), false);
+    for ((&code, &level), &colour) in codes.iter().zip(levels).zip(colours) {
+        let level = u32::from(level);
+        if level > n {
+            return 3;
+        }
+        if code != sum || sum == whole {
+            return 4;
+        }
+        let pixels = 1 << (2 * level);
+        if code & (pixels - 1) != 0 {
+            return 5;
+        }
+        sum += pixels;
+        run = if before == (level, colour) { run + 1 } else { 1 };
+        before = (level, colour);
+        siblings |= run >= 4 && (code >> (2 * level)) & 3 == 3;
+    }
+    if sum < whole {
+        return 6;
+    }
+    if siblings {
+        return 7;
+    }
+    0
+}
+
+/// The merged block list of a raster: at each code the block grows while the three squares beside it have its colour.
+pub fn blocks_from_raster(n: u32, raster: &[u8], codes: &mut [u32], levels: &mut [u8], colours: &mut [u8]) -> Written {
+    if n > 8 {
+        return Written::refused(1);
+    }
+    let whole = 1 << (2 * n);
+    if raster.len() != whole {
+        return Written::refused(9);
+    }
+    if codes.len() < whole || levels.len() < whole || colours.len() < whole {
+        return Written::refused(8);
+    }
+    let (mut code, mut count) = (0, 0);
+    while (code as usize) < whole {
+        let at = place(n, code);
+        let level = level_at(n, raster, code, at);
+        codes[count] = code;
+        levels[count] = level as u8;
+        colours[count] = raster[at];
+        count += 1;
+        code += 1 << (2 * level);
+    }
+    Written { number: 0, count: count as u32 }
+}
+
+/// The level of the block that starts at a code, whose pixel stands at the place `at`.
+fn level_at(n: u32, raster: &[u8], code: u32, at: usize) -> u32 {
+    let top = n.min(code.trailing_zeros() / 2);
+    let side = 1 << n;
+    let colour = raster[at];
+    let alike = |from: usize, s: usize| {
+        raster[from..].chunks(side).take(s).all(|row| row[..s].iter().all(|&c| c == colour))
+    };
+    (0..top)
+        .find(|level| {
+            let s = 1 << level;
+            let south = at + (s << n);
+            !(alike(at + s, s) && alike(south, s) && alike(south + s, s))
+        })
+        .unwrap_or(top)
+}
+
+/// The raster of a block list.
+pub fn raster_from_blocks(n: u32, codes: &[u32], levels: &[u8], colours: &[u8], raster: &mut [u8]) -> Written {
+    let fault = check(n, codes, levels, colours);
+    if fault != 0 {
+        return Written::refused(fault);
+    }
+    let whole = 1 << (2 * n);
+    if raster.len() < whole {
+        return Written::refused(8);
+    }
+    for ((&code, &level), &colour) in codes.iter().zip(levels).zip(colours) {
+        fill_square(raster, n, place(n, code), level, colour);
+    }
+    Written { number: 0, count: whole as u32 }
+}
+
+/// Stores `value` in the square of side 2^level at the place `at`, in rows of 2^n.
+pub fn fill_square<T: Copy>(cells: &mut [T], n: u32, at: usize, level: u8, value: T) {
+    if level == 0 {
+        cells[at] = value;
+        return;
+    }
+    let side = 1 << level;
+    for row in cells[at..].chunks_mut(1 << n).take(side) {
+        row[..side].fill(value);
+    }
+}

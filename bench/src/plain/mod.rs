@@ -1,0 +1,13 @@
+//! The same job in plain Rust, with no proof: what the proved library is measured against.
+//!
+//! It is written for speed with slices and ordinary safe code, follows document 01 to the letter and allocates nothing: it is
+//! lent the same lists as the library.
+
+pub mod blocks;
+pub mod location;
+pub mod outlines;
+pub mod regions;
+
+pub use blocks::{blocks_from_raster, check, raster_from_blocks};
+pub use outlines::trace;
+pub use regions::number;

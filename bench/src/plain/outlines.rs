@@ -1,0 +1,156 @@
+//! The outlines of all regions: a map of region numbers, the blocks of each region linked, and the rule of steps along each
+//! cycle.
+
+use super::blocks::{check, fill_square};
+use super::location::{pixel, place};
+use super::regions::number_blocks;
+use crate::answers::Traced;
+
+/// Set in a map entry once the north side of its pixel is walked.
+const WALKED: u32 = 1 << 31;
+
+/// One step east, north, west, south for pixels and corners kept as y times 512 plus x.
+const STEP: [u32; 4] = [1, 0u32.wrapping_sub(512), 0u32.wrapping_sub(1), 512];
+
+/// The tail of the edge that goes east, north, west, south around its pixel, less that pixel.
+const TAIL: [u32; 4] = [0, 512, 513, 1];
+
+/// What a tracing is lent besides the block list.
+pub struct Lent<'a> {
+    pub labels: &'a mut [u32],
+    pub work: &'a mut [u32],
+    pub owners: &'a mut [u32],
+    pub ends: &'a mut [u32],
+    pub corners: &'a mut [u32],
+}
+
+pub fn trace(n: u32, codes: &[u32], levels: &[u8], colours: &[u8], lent: Lent) -> Traced {
+    let fault = check(n, codes, levels, colours);
+    if fault != 0 {
+        return Traced::refused(fault);
+    }
+    let Lent { labels, work, owners, ends, corners } = lent;
+    let whole = 1usize << (2 * n);
+    if labels.len() < codes.len()
+        || work.len() < 2 * whole
+        || owners.len() < whole
+        || ends.len() < whole
+        || corners.len() < 4 * whole
+    {
+        return Traced::refused(8);
+    }
+    let labels = &mut labels[..codes.len()];
+    let regions = number_blocks(n, codes, levels, colours, labels, work);
+
+    let (map, links) = work[..2 * whole].split_at_mut(whole);
+    for ((&code, &level), &label) in codes.iter().zip(levels).zip(&*labels) {
+        fill_square(map, n, place(n, code), level, label);
+    }
+    let links = &mut links[..codes.len()];
+    link(labels, links, &mut owners[..regions as usize]);
+
+    let (cycles, corners) = list(&mut Map { n, cells: map }, codes, levels, labels, links, owners, ends, corners);
+    work[..2 * whole].fill(0);
+    Traced { number: 0, regions, cycles, corners }
+}
+
+/// Links each block to the next one of its region: one plus its index, 0 for none. `heads` is scratch, one entry a region.
+fn link(labels: &[u32], links: &mut [u32], heads: &mut [u32]) {
+    heads.fill(0);
+    for (k, (&label, next)) in labels.iter().zip(links).enumerate().rev() {
+        let head = &mut heads[label as usize];
+        *next = *head;
+        *head = k as u32 + 1;
+    }
+}
+
+/// Lists the cycles region by region, each region's in rising code of their starts; returns how many cycles and corners.
+#[allow(clippy::too_many_arguments)]
+fn list(
+    map: &mut Map,
+    codes: &[u32],
+    levels: &[u8],
+    labels: &[u32],
+    links: &[u32],
+    owners: &mut [u32],
+    ends: &mut [u32],
+    corners: &mut [u32],
+) -> (u32, u32) {
+    let (mut region, mut cycles, mut end) = (0, 0, 0);
+    for (first, &label) in labels.iter().enumerate() {
+        if label != region {
+            continue;
+        }
+        let mut next = first as u32 + 1;
+        while next != 0 {
+            let block = next as usize - 1;
+            let (x, y) = pixel(codes[block]);
+            for x in x..x + (1 << levels[block]) {
+                if map.starts(x, y) {
+                    end += map.walk((y << 9 | x) as u32, &mut corners[end..]);
+                    owners[cycles] = region;
+                    ends[cycles] = end as u32;
+                    cycles += 1;
+                }
+            }
+            next = links[block];
+        }
+        region += 1;
+    }
+    (cycles as u32, end as u32)
+}
+
+/// The region number of each pixel of an image of side 2^n, row by row, and the marks.
+struct Map<'a> {
+    n: u32,
+    cells: &'a mut [u32],
+}
+
+impl Map<'_> {
+    /// Whether the north side of a pixel is an edge that no cycle has walked yet.
+    fn starts(&self, x: usize, y: usize) -> bool {
+        let at = y << self.n | x;
+        let cell = self.cells[at];
+        cell & WALKED == 0 && (y == 0 || self.cells[at - (1 << self.n)] & !WALKED != cell)
+    }
+
+    /// Where a pixel kept as y times 512 plus x stands among the cells.
+    fn at(&self, pixel: u32) -> usize {
+        ((pixel >> 9) << self.n | (pixel & 511)) as usize
+    }
+
+    /// Whether a pixel, which may lie outside the image, is in a region.
+    fn inside(&self, pixel: u32, region: u32) -> bool {
+        let side = (1 << self.n) - 1;
+        pixel & !(side << 9 | side) == 0 && self.cells[self.at(pixel)] & !WALKED == region
+    }
+
+    /// Walks the cycle from the north side of the pixel `start`, writes its corners and returns their number.
+    fn walk(&mut self, start: u32, corners: &mut [u32]) -> usize {
+        let region = self.cells[self.at(start)];
+        let (mut pixel, mut direction, mut count) = (start, 0, 1);
+        corners[0] = start;
+        loop {
+            if direction == 0 {
+                let at = self.at(pixel);
+                self.cells[at] |= WALKED;
+            }
+            let ahead = pixel.wrapping_add(STEP[direction]);
+            let left = (direction + 1) % 4;
+            let beside = ahead.wrapping_add(STEP[left]);
+            if !self.inside(ahead, region) {
+                direction = (direction + 3) % 4;
+            } else if !self.inside(beside, region) {
+                pixel = ahead;
+                continue;
+            } else {
+                (pixel, direction) = (beside, left);
+            }
+            if pixel == start && direction == 0 {
+                return count;
+            }
+            corners[count] = pixel + TAIL[direction];
+            count += 1;
+        }
+    }
+}

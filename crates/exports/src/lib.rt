@@ -1,0 +1,133 @@
+// The functions of the libraries under C names, for the tests and for programs in C and Rust (include/nettlestair.h).
+// Each hands its arguments on and carries the library's promise.
+ghost use mathlib.Core.Path.{_≡_};
+ghost use Rattle.quadtree.specs.Number.{number};
+ghost use Rattle.blocks.specs.Rasters.{FromRaster, ToRaster};
+ghost use Rattle.paths.specs.Stretch.{Place};
+ghost use Rattle.paths.specs.Svg.{Svg};
+ghost use Rattle.paths.specs.Chain.{ChainWritten};
+ghost use Rattle.paths.specs.ChainForm.{ChainRead};
+ghost use Rattle.pgm.specs.Picture.{Answered};
+
+// The number of an answer, 0 for acceptance, and how many entries were written.
+#[repr(C)]
+pub struct Written {
+    pub number: u32,
+    pub count: u32,
+}
+
+// A part of a lent list, by its place and length.
+#[repr(C)]
+pub struct Stretch {
+    pub start: usize,
+    pub length: usize,
+}
+
+// What the reader of pictures answers: the number, n, maxval and the stretch of the bytes that is the raster.
+#[repr(C)]
+pub struct Picture {
+    pub number: u32,
+    pub n: u32,
+    pub maxval: u32,
+    pub start: usize,
+    pub length: usize,
+}
+
+#[no_mangle]
+pub extern "C" fn nettlestair_check(n: u32, codes: &[u32], levels: &[u8], colours: &[u8]) -> u32
+    ensures { λ r. ⌜ r ≡ number n (now (codes .entry)) (now (levels .entry)) (now (colours .entry)) ⌝ }
+{
+    blocks::check(n, codes, levels, colours)
+}
+
+#[no_mangle]
+pub extern "C" fn nettlestair_blocks_from_raster(
+    n: u32,
+    raster: &[u8],
+    codes: &mut [u32],
+    levels: &mut [u8],
+    colours: &mut [u8],
+) -> Written
+    ensures { λ r. ⌜ FromRaster n (now (raster .entry)) (now (codes .entry)) (now (levels .entry)) (now (colours .entry)) (now (codes .exit)) (now (levels .exit)) (now (colours .exit)) (record { number = r .number; count = r .count }) ⌝ }
+{
+    let r = blocks::from_raster(n, raster, codes, levels, colours);
+    Written {
+        number: r.number,
+        count: r.count,
+    }
+}
+
+#[no_mangle]
+pub extern "C" fn nettlestair_raster_from_blocks(
+    n: u32,
+    codes: &[u32],
+    levels: &[u8],
+    colours: &[u8],
+    raster: &mut [u8],
+) -> Written
+    ensures { λ r. ⌜ ToRaster n (now (codes .entry)) (now (levels .entry)) (now (colours .entry)) (now (raster .entry)) (now (raster .exit)) (record { number = r .number; count = r .count }) ⌝ }
+{
+    let r = blocks::to_raster(n, codes, levels, colours, raster);
+    Written {
+        number: r.number,
+        count: r.count,
+    }
+}
+
+#[no_mangle]
+pub extern "C" fn nettlestair_cycle(corners: &[u32], ends: &[u32], count: u32, k: u32) -> Stretch
+    ensures { λ r. ⌜ Place (now (corners .entry)) (now (ends .entry)) count k (record { start = r .start; length = r .length }) ⌝ }
+{
+    let r = paths::cycle_place(corners, ends, count, k);
+    Stretch {
+        start: r.start,
+        length: r.length,
+    }
+}
+
+#[no_mangle]
+pub extern "C" fn nettlestair_svg(corners: &[u32], text: &mut [u8]) -> Written
+    ensures { λ r. ⌜ Svg (now (corners .entry)) (now (text .entry)) (now (text .exit)) (record { number = r .number; count = r .count }) ⌝ }
+{
+    let r = paths::svg(corners, text);
+    Written {
+        number: r.number,
+        count: r.count,
+    }
+}
+
+#[no_mangle]
+pub extern "C" fn nettlestair_chain(corners: &[u32], chain: &mut [u8]) -> Written
+    ensures { λ r. ⌜ ChainWritten (now (corners .entry)) (now (chain .entry)) (now (chain .exit)) (record { number = r .number; count = r .count }) ⌝ }
+{
+    let r = paths::chain(corners, chain);
+    Written {
+        number: r.number,
+        count: r.count,
+    }
+}
+
+#[no_mangle]
+pub extern "C" fn nettlestair_read_chain(start: u32, chain: &[u8], corners: &mut [u32]) -> Written
+    ensures { λ r. ⌜ ChainRead start (now (chain .entry)) (now (corners .entry)) (now (corners .exit)) (record { number = r .number; count = r .count }) ⌝ }
+{
+    let r = paths::read_chain(start, chain, corners);
+    Written {
+        number: r.number,
+        count: r.count,
+    }
+}
+
+#[no_mangle]
+pub extern "C" fn nettlestair_read_pgm(bytes: &[u8]) -> Picture
+    ensures { λ r. ⌜ Answered (now (bytes .entry)) (now (bytes .exit)) (record { number = r .number; n = r .n; maxval = r .maxval; start = r .start; length = r .length }) ⌝ }
+{
+    let r = pgm::read(bytes);
+    Picture {
+        number: r.number,
+        n: r.n,
+        maxval: r.maxval,
+        start: r.start,
+        length: r.length,
+    }
+}

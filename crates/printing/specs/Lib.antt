@@ -1,0 +1,9 @@
+-- The text of a picture.
+pub mod Lines
+pub mod Outlines
+pub mod Held
+pub mod Writing
+pub mod Picturing
+pub mod Printed
+pub mod Printable
+pub mod Examples

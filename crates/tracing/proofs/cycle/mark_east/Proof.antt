@@ -1,0 +1,39 @@
+-- The pixel on the right of an eastward edge of the region lies in the image, so its entry is in the list.
+use mathlib.Core.Path.{sym}
+use native.Mathlib.Omega.{arith}
+use Rattle.tracing.specs.Points.{east-place, no-mark}
+use borrow.Author.Needs.{needs}
+use Rattle.tracing.proofs.cycle.mark_east.Statement.{statement}
+use Rattle.tracing.proofs.cycle.mark_east.Tie as tie
+
+mul-i : tie.Need-mul-i
+mul-i c = omega (arith, east-place (c .before .pre) (c .if1 .taken) .row)
+
+add-i : tie.Need-add-i
+add-i c = omega (arith, east-place (c .before .pre) (c .if1 .taken) .row)
+
+cast-i : tie.Need-cast-i
+cast-i c = omega (arith, east-place (c .before .pre) (c .if1 .taken) .row)
+
+add-map : tie.Need-add-map
+add-map c = omega (arith, east-place (c .before .pre) (c .if1 .taken) .known)
+
+mul-map : tie.Need-mul-map
+mul-map c = omega (arith, east-place (c .before .pre) (c .if1 .taken) .row)
+
+slice-write-map : tie.Need-slice-write-map
+slice-write-map c = omega (arith, east-place (c .before .pre) (c .if1 .taken) .inside, c .before .pre .square .room)
+
+same-length : tie.Need-same-length
+same-length c = search needs
+
+returns : tie.Need-returns
+returns c = sym (east-place (c .before .pre) (c .if1 .taken) .after)
+
+returns-2 : tie.Need-returns-2
+returns-2 c = sym (no-mark (c .before .pre) (c .if1 .left))
+
+pub mark-east-spec : {M : Type 1} → statement M
+mark-east-spec =
+    tie.close
+    (tie.spec mul-i add-i cast-i add-map mul-map slice-write-map same-length returns returns-2)

@@ -1,0 +1,40 @@
+//! Draws the sample dials as binary PGM files into the folder that is named on the command line. `samples/draw` runs it.
+
+mod dial;
+
+use std::path::Path;
+use std::{env, fs, io};
+
+/// A binary PGM with a maxval of 255.
+fn pgm(width: usize, height: usize, raster: &[u8]) -> Vec<u8> {
+    [format!("P5\n{width} {height}\n255\n").as_bytes(), raster].concat()
+}
+
+/// Each file with its bytes.
+fn samples() -> Vec<(&'static str, Vec<u8>)> {
+    vec![
+        ("clock-64.pgm", pgm(64, 64, &dial::clock(64))),
+        ("clock-256.pgm", pgm(256, 256, &dial::clock(256))),
+        // dials 1 to 5 of document 01
+        ("dial-1.pgm", pgm(1, 1, &[1])),
+        ("dial-2.pgm", pgm(4, 4, &[1, 1, 1, 1, 1, 2, 1, 1, 1, 1, 3, 3, 1, 1, 3, 3])),
+        ("dial-3.pgm", pgm(4, 4, &[1, 1, 1, 1, 1, 2, 2, 1, 1, 2, 2, 1, 1, 1, 1, 1])),
+        ("dial-4.pgm", pgm(2, 2, &[1, 2, 2, 1])),
+        ("dial-5.pgm", pgm(2, 2, &[1, 1, 2, 2])),
+        // one picture for each number with which a picture is refused, from 10 to 14; clock-256.pgm is refused with 15
+        ("refused-10.pgm", b"P2\n2 2\n255\n1 2\n2 1\n".to_vec()),
+        ("refused-11.pgm", pgm(3, 2, &[1, 1, 2, 2, 2, 1])),
+        ("refused-12.pgm", b"P5\n2 2\n256\n\x01\x02\x02\x01".to_vec()),
+        ("refused-13.pgm", pgm(2, 2, &[1, 2, 2])),
+        ("refused-14.pgm", b"P5\n2 2\n9\n\x01\x02\x02\x0a".to_vec()),
+    ]
+}
+
+fn main() -> io::Result<()> {
+    let folder = env::args().nth(1).expect("usage: draw FOLDER");
+    for (name, bytes) in samples() {
+        fs::write(Path::new(&folder).join(name), &bytes)?;
+        println!("{name}: {} bytes", bytes.len());
+    }
+    Ok(())
+}
