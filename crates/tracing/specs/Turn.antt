@@ -132,7 +132,7 @@ module _ {n x y : ℕ} {s : State} (ok : PixelAsked n x y s) where
 
     pub loud : {work′ tail′ : List ℕ} {k v : ℕ} → CycleWritten n (s .work) (midOf (s .at) (length (s .points) - s .at) (s .points)) (code n x y) work′ tail′ k → v ≡ r - 1
         → Told n (code n x y ∷ []) s
-          (state work′ (set (s .owned) (s .cycles) v) (set (s .ended) (s .cycles) (s .at + k)) (putMid (s .at) (length (s .points) - s .at) (s .points) tail′) (s .cycles + 1) (s .at + k))
+        (state work′ (set (s .owned) (s .cycles) v) (set (s .ended) (s .cycles) (s .at + k)) (putMid (s .at) (length (s .points) - s .at) (s .points) tail′) (s .cycles + 1) (s .at + k))
     unfolding cornerCount
     loud {work′} {tail′} {k} {v} w e =
         let m : List ℕ = numsOf n (s .work) in
