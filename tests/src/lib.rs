@@ -6,6 +6,7 @@
 pub mod calls;
 pub mod cases;
 pub mod compare;
+pub mod damage;
 pub mod lent;
 pub mod library;
 pub mod model;

@@ -3,6 +3,8 @@
 use tests::calls::{agrees, Out};
 use tests::cases::Cases;
 use tests::compare::Shown;
+use tests::damage::each_place;
+use tests::lent::Entry;
 use tests::library::{self, Stretch};
 use tests::model::paths::{chain, corner, is_cycle_form, read_chain, stretch, svg};
 use tests::outlines::{outline, random_outline};
@@ -32,7 +34,7 @@ fn written(random: &mut Random, corners: &[u32]) {
 }
 
 /// What differs from the answer by the order: `number` where there is no cycle form, then 8, then acceptance.
-fn judged<T: tests::lent::Entry>(out: &Out<T>, form: bool, number: u32, room: bool, entries: &[T]) -> Option<String> {
+fn judged<T: Entry>(out: &Out<T>, form: bool, number: u32, room: bool, entries: &[T]) -> Option<String> {
     match (form, room) {
         (false, _) => out.difference_from_refusal(number),
         (_, false) => out.difference_from_refusal(8),
@@ -260,24 +262,13 @@ fn damage_is_seen() {
         let corners = random_outline(&mut random, 3, 9);
         let (text, digits) = (svg(&corners).into_bytes(), chain(&corners));
         let mut out = Out::of(&mut random, 9 + 4 * corners.len(), |list| library::svg(&corners, list));
-        each_place(&mut random, &mut cases, &mut out, &text);
+        each_place(&mut random, &mut cases, &mut out, |o| &mut o.list, &text, |o| o.difference(&text));
         let mut out = Out::of(&mut random, digits.len(), |list| library::chain(&corners, list));
-        each_place(&mut random, &mut cases, &mut out, &digits);
+        each_place(&mut random, &mut cases, &mut out, |o| &mut o.list, &digits, |o| o.difference(&digits));
         let mut out = Out::of(&mut random, corners.len() + 1, |list| library::read_chain(corners[0], &digits, list));
-        each_place(&mut random, &mut cases, &mut out, &corners);
+        each_place(&mut random, &mut cases, &mut out, |o| &mut o.list, &corners, |o| o.difference(&corners));
         out.written.count += 1;
         assert!(out.difference(&corners).is_some(), "another count");
     }
     cases.end();
-}
-
-fn each_place<T: tests::lent::Entry>(random: &mut Random, cases: &mut Cases, out: &mut Out<T>, entries: &[T]) {
-    for place in 0..out.list.places() {
-        assert_eq!(out.difference(entries), None);
-        out.list.damage(random, place);
-        let said = out.difference(entries).expect("a damaged entry is reported");
-        assert!(said.contains(&format!("entry {place}:")), "damage at {place}, and reported was: {said}");
-        out.list.mend(entries, place);
-        cases.ran();
-    }
 }
