@@ -18,6 +18,21 @@ struct nettlestair_written {
     uint32_t count;
 };
 
+/* A part of a lent list: its place and its length in entries. */
+struct nettlestair_stretch {
+    size_t start;
+    size_t length;
+};
+
+/* What a picture is: its number, and on acceptance n, maxval and the part of the bytes that is the raster. */
+struct nettlestair_picture {
+    uint32_t number;
+    uint32_t n;
+    uint32_t maxval;
+    size_t start;
+    size_t length;
+};
+
 /* The number of a block list of an image of side 2^n: 0 where it is accepted, else 1 to 7. */
 uint32_t nettlestair_check(uint32_t n, const uint32_t *codes, size_t codes_len, const uint8_t *levels, size_t levels_len,
                            const uint8_t *colours, size_t colours_len);
@@ -33,6 +48,23 @@ struct nettlestair_written nettlestair_raster_from_blocks(uint32_t n, const uint
                                                           const uint8_t *levels, size_t levels_len,
                                                           const uint8_t *colours, size_t colours_len, uint8_t *raster,
                                                           size_t raster_len);
+
+/* Where the corners of cycle k stand in a corner list, by an end list and a cycle count; {0, 0} where there are none. */
+struct nettlestair_stretch nettlestair_cycle(const uint32_t *corners, size_t corners_len, const uint32_t *ends,
+                                             size_t ends_len, uint32_t count, uint32_t k);
+
+/* One outline as SVG path data: 0, or 16, 8. The text has room for 9 bytes and 4 a corner. A corner is y times 512 plus x. */
+struct nettlestair_written nettlestair_svg(const uint32_t *corners, size_t corners_len, uint8_t *text, size_t text_len);
+
+/* One outline as a chain code: 0, or 16, 8. The chain has room for one byte a unit edge. */
+struct nettlestair_written nettlestair_chain(const uint32_t *corners, size_t corners_len, uint8_t *chain, size_t chain_len);
+
+/* The corners of a chain code from its start corner: 0, or 17, 8. The list has room for them. */
+struct nettlestair_written nettlestair_read_chain(uint32_t start, const uint8_t *chain, size_t chain_len,
+                                                  uint32_t *corners, size_t corners_len);
+
+/* Binary PGM: 0, or 10 to 14 with zeros. */
+struct nettlestair_picture nettlestair_read_pgm(const uint8_t *bytes, size_t bytes_len);
 
 #ifdef __cplusplus
 }

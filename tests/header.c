@@ -36,5 +36,25 @@ int main(void) {
     w = nettlestair_raster_from_blocks(2, codes, 7, levels, 7, colours, 7, r, 15);
     expect("raster from blocks, too short", w.number == 8 && w.count == 0);
 
+    /* dial 1 */
+    const uint32_t square[4] = {0, 1, 513, 512};
+    uint8_t text[25], chain[4];
+    uint32_t corners[4];
+    w = nettlestair_svg(square, 4, text, 25);
+    expect("path data", w.number == 0 && w.count == 11 && !memcmp(text, "M0 0H1V1H0Z", 11));
+    w = nettlestair_chain(square, 4, chain, 4);
+    expect("chain", w.number == 0 && w.count == 4 && !memcmp(chain, "0321", 4));
+    w = nettlestair_read_chain(0, chain, 4, corners, 4);
+    expect("chain read", w.number == 0 && w.count == 4 && !memcmp(corners, square, sizeof square));
+
+    const uint32_t ends[2] = {1, 4};
+    struct nettlestair_stretch s = nettlestair_cycle(square, 4, ends, 2, 2, 1);
+    expect("stretch", s.start == 1 && s.length == 3);
+
+    struct nettlestair_picture p = nettlestair_read_pgm((const uint8_t *)"P5 2 2 9 \1\2\3\4", 13);
+    expect("picture", p.number == 0 && p.n == 1 && p.maxval == 9 && p.start == 9 && p.length == 4);
+    p = nettlestair_read_pgm((const uint8_t *)"P5 3", 4);
+    expect("bad header", p.number == 10 && p.n == 0 && p.maxval == 0 && p.start == 0 && p.length == 0);
+
     return failures != 0;
 }

@@ -6,8 +6,10 @@
 pub mod calls;
 pub mod cases;
 pub mod compare;
+pub mod damage;
 pub mod lent;
 pub mod library;
 pub mod model;
+pub mod outlines;
 pub mod random;
 pub mod rasters;

@@ -8,6 +8,25 @@ pub struct Written {
     pub count: u32,
 }
 
+/// A part of a lent list, by its place and length.
+#[repr(C)]
+#[derive(Clone, Copy, Debug, PartialEq, Eq)]
+pub struct Stretch {
+    pub start: usize,
+    pub length: usize,
+}
+
+/// What the reader of pictures answers.
+#[repr(C)]
+#[derive(Clone, Copy, Debug, PartialEq, Eq)]
+pub struct Picture {
+    pub number: u32,
+    pub n: u32,
+    pub maxval: u32,
+    pub start: usize,
+    pub length: usize,
+}
+
 /// The answer of a refusal: "number, counts 0".
 pub const fn refused(number: u32) -> Written {
     Written { number, count: 0 }
@@ -47,6 +66,29 @@ extern "C" {
         raster: *mut u8,
         raster_len: usize,
     ) -> Written;
+
+    fn nettlestair_cycle(
+        corners: *const u32,
+        corners_len: usize,
+        ends: *const u32,
+        ends_len: usize,
+        count: u32,
+        k: u32,
+    ) -> Stretch;
+
+    fn nettlestair_svg(corners: *const u32, corners_len: usize, text: *mut u8, text_len: usize) -> Written;
+
+    fn nettlestair_chain(corners: *const u32, corners_len: usize, chain: *mut u8, chain_len: usize) -> Written;
+
+    fn nettlestair_read_chain(
+        start: u32,
+        chain: *const u8,
+        chain_len: usize,
+        corners: *mut u32,
+        corners_len: usize,
+    ) -> Written;
+
+    fn nettlestair_read_pgm(bytes: *const u8, bytes_len: usize) -> Picture;
 }
 
 /// The number of a block list, 0 where it is accepted.
@@ -99,4 +141,34 @@ pub fn raster_from_blocks(n: u32, codes: &[u32], levels: &[u8], colours: &[u8], 
             raster.len(),
         )
     }
+}
+
+/// Where the stretch of cycle k lies in the corner list.
+pub fn cycle(corners: &[u32], ends: &[u32], count: u32, k: u32) -> Stretch {
+    // Each pointer comes with the length of its slice.
+    unsafe { nettlestair_cycle(corners.as_ptr(), corners.len(), ends.as_ptr(), ends.len(), count, k) }
+}
+
+/// An outline as SVG path data, written to `text`.
+pub fn svg(corners: &[u32], text: &mut [u8]) -> Written {
+    // Each pointer comes with the length of its slice.
+    unsafe { nettlestair_svg(corners.as_ptr(), corners.len(), text.as_mut_ptr(), text.len()) }
+}
+
+/// An outline as a chain code, written to `chain`.
+pub fn chain(corners: &[u32], chain: &mut [u8]) -> Written {
+    // Each pointer comes with the length of its slice.
+    unsafe { nettlestair_chain(corners.as_ptr(), corners.len(), chain.as_mut_ptr(), chain.len()) }
+}
+
+/// The corners of a chain code, written to `corners`.
+pub fn read_chain(start: u32, chain: &[u8], corners: &mut [u32]) -> Written {
+    // Each pointer comes with the length of its slice.
+    unsafe { nettlestair_read_chain(start, chain.as_ptr(), chain.len(), corners.as_mut_ptr(), corners.len()) }
+}
+
+/// What a binary PGM picture is, and where its raster lies in its bytes.
+pub fn read_pgm(bytes: &[u8]) -> Picture {
+    // The pointer comes with the length of its slice.
+    unsafe { nettlestair_read_pgm(bytes.as_ptr(), bytes.len()) }
 }

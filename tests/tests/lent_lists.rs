@@ -2,7 +2,7 @@
 
 use tests::calls::{agrees, raster_from_blocks, BlocksOut};
 use tests::cases::Cases;
-use tests::lent::{Entry, Lent};
+use tests::damage::each_place;
 use tests::model::blocks::quadtree;
 use tests::random::Random;
 use tests::rasters;
@@ -120,23 +120,4 @@ fn damage_is_seen() {
         }
     }
     cases.end();
-}
-
-/// Damages each entry of one list by turns: the difference is reported, and none before it or after it was mended.
-fn each_place<O, T: Entry>(
-    random: &mut Random,
-    cases: &mut Cases,
-    out: &mut O,
-    list: impl Fn(&mut O) -> &mut Lent<T>,
-    written: &[T],
-    difference: impl Fn(&O) -> Option<String>,
-) {
-    for place in 0..list(out).places() {
-        assert_eq!(difference(out), None);
-        list(out).damage(random, place);
-        let said = difference(out).expect("a damaged entry is reported");
-        assert!(said.contains(&format!("entry {place}:")), "damage at {place}, and reported was: {said}");
-        list(out).mend(written, place);
-        cases.ran();
-    }
 }

@@ -6,6 +6,7 @@ use native.Mathlib.Numerals.{add-one}
 use native.Mathlib.Omega.{arith}
 use lib.ListN.{length, getD, drop}
 use Rattle.quadtree.specs.Blocks.{Block, blocks}
+use Rattle.quadtree.specs.Fields.{length-blocks as count-of-blocks}
 
 pub record EqualLengths (codes levels colours : List ℕ) : Type 0 where
   pub levels-too : length codes ≡ length levels
@@ -16,12 +17,7 @@ unfoldable pub blockOf : List ℕ → List ℕ → List ℕ → ℕ → Block
 blockOf codes levels colours i = record { code = getD codes i 0; level = getD levels i 0; colour = getD colours i 0 }
 
 pub length-blocks : (cs ls ks : List ℕ) → EqualLengths cs ls ks → length (blocks cs ls ks) ≡ length cs
-unfolding blocks
-length-blocks [] ls ks e = refl
-length-blocks (c ∷ cs) [] ks e = absurd (omega (arith, e .levels-too))
-length-blocks (c ∷ cs) (l ∷ ls) [] e = absurd (omega (arith, e .colours-too))
-length-blocks (c ∷ cs) (l ∷ ls) (k ∷ ks) e =
-    ap suc (length-blocks cs ls ks (record { levels-too = omega (arith, e .levels-too); colours-too = omega (arith, e .colours-too) }))
+length-blocks cs ls ks e = count-of-blocks cs ls ks (e .levels-too) (e .colours-too)
 
 -- The rest of a block list from the place i on begins with the block there.
 pub rest-of-blocks : (cs ls ks : List ℕ) → EqualLengths cs ls ks → (i : ℕ) → i < length cs

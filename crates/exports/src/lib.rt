@@ -3,12 +3,34 @@
 ghost use mathlib.Core.Path.{_≡_};
 ghost use Rattle.quadtree.specs.Number.{number};
 ghost use Rattle.blocks.specs.Rasters.{FromRaster, ToRaster};
+ghost use Rattle.paths.specs.Stretch.{Place};
+ghost use Rattle.paths.specs.Svg.{Svg};
+ghost use Rattle.paths.specs.Chain.{ChainWritten};
+ghost use Rattle.paths.specs.ChainForm.{ChainRead};
+ghost use Rattle.pgm.specs.Picture.{Answered};
 
 // The number of an answer, 0 for acceptance, and how many entries were written.
 #[repr(C)]
 pub struct Written {
     pub number: u32,
     pub count: u32,
+}
+
+// A part of a lent list, by its place and length.
+#[repr(C)]
+pub struct Stretch {
+    pub start: usize,
+    pub length: usize,
+}
+
+// What the reader of pictures answers: the number, n, maxval and the stretch of the bytes that is the raster.
+#[repr(C)]
+pub struct Picture {
+    pub number: u32,
+    pub n: u32,
+    pub maxval: u32,
+    pub start: usize,
+    pub length: usize,
 }
 
 #[no_mangle]
@@ -49,5 +71,63 @@ pub extern "C" fn nettlestair_raster_from_blocks(
     Written {
         number: r.number,
         count: r.count,
+    }
+}
+
+#[no_mangle]
+pub extern "C" fn nettlestair_cycle(corners: &[u32], ends: &[u32], count: u32, k: u32) -> Stretch
+    ensures { λ r. ⌜ Place (now (corners .entry)) (now (ends .entry)) count k (record { start = r .start; length = r .length }) ⌝ }
+{
+    let r = paths::cycle_place(corners, ends, count, k);
+    Stretch {
+        start: r.start,
+        length: r.length,
+    }
+}
+
+#[no_mangle]
+pub extern "C" fn nettlestair_svg(corners: &[u32], text: &mut [u8]) -> Written
+    ensures { λ r. ⌜ Svg (now (corners .entry)) (now (text .entry)) (now (text .exit)) (record { number = r .number; count = r .count }) ⌝ }
+{
+    let r = paths::svg(corners, text);
+    Written {
+        number: r.number,
+        count: r.count,
+    }
+}
+
+#[no_mangle]
+pub extern "C" fn nettlestair_chain(corners: &[u32], chain: &mut [u8]) -> Written
+    ensures { λ r. ⌜ ChainWritten (now (corners .entry)) (now (chain .entry)) (now (chain .exit)) (record { number = r .number; count = r .count }) ⌝ }
+{
+    let r = paths::chain(corners, chain);
+    Written {
+        number: r.number,
+        count: r.count,
+    }
+}
+
+#[no_mangle]
+pub extern "C" fn nettlestair_read_chain(start: u32, chain: &[u8], corners: &mut [u32]) -> Written
+    ensures { λ r. ⌜ ChainRead start (now (chain .entry)) (now (corners .entry)) (now (corners .exit)) (record { number = r .number; count = r .count }) ⌝ }
+{
+    let r = paths::read_chain(start, chain, corners);
+    Written {
+        number: r.number,
+        count: r.count,
+    }
+}
+
+#[no_mangle]
+pub extern "C" fn nettlestair_read_pgm(bytes: &[u8]) -> Picture
+    ensures { λ r. ⌜ Answered (now (bytes .entry)) (now (bytes .exit)) (record { number = r .number; n = r .n; maxval = r .maxval; start = r .start; length = r .length }) ⌝ }
+{
+    let r = pgm::read(bytes);
+    Picture {
+        number: r.number,
+        n: r.n,
+        maxval: r.maxval,
+        start: r.start,
+        length: r.length,
     }
 }

@@ -10,7 +10,8 @@ use Rattle.grid.specs.Map.{regionAt, around}
 use Rattle.grid.specs.Steps.{step}
 
 -- "An outline, or cycle, is the edges the rule runs through from one edge until that edge comes again" (document 01, "Outlines").
--- Every edge of an image of side 256 is below 526,336; the number only bounds the search for the return.
+-- Every edge of an image of side 256 is below 526,336; the number only bounds the search for the return (`ring` of Returning.antt:
+-- the list is the walk up to the first return).
 unfoldable pub cycleFrom : (ℕ → ℕ → ℕ) → ℕ → List ℕ
 unfolding orbit step
 cycleFrom m e = orbit 526336 (step m) e

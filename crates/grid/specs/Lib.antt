@@ -1,24 +1,29 @@
--- Outlines: the map, the rule of steps, cycles, their listing; and their laws.
+-- Outlines. First the definitions: the map, the rule of steps, cycles, their listing, computed for two dials.
 pub mod Map
 pub mod Steps
 pub mod Cycles
 pub mod Listing
 pub mod Dials
+-- The rule of steps: sides of pixels, a bijection on the edges of a region, where an outline meets itself.
 pub mod Margins
 pub mod Undoing
+pub mod Sides
 pub mod East
 pub mod Returning
 pub mod Pinches
-pub mod Sides
+-- Starts and corners.
 pub mod North
 pub mod Starting
 pub mod Closing
+-- What is listed: every side once, all outlines, how many, cycle forms, the outer ones, the stretch of each.
 pub mod Keeping
 pub mod Listed
 pub mod Bounds
 pub mod Forms
 pub mod Outer
 pub mod Stretches
+-- For the loops that list: the map in rows, marks, one cycle walked, the pixels of a region, the listing underway.
+pub mod Ways
 pub mod Unseen
 pub mod Rows
 pub mod Marks
@@ -29,4 +34,3 @@ pub mod Links
 pub mod Underway
 pub mod Heads
 pub mod Appending
-pub mod Ways

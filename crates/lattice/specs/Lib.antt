@@ -8,3 +8,4 @@ pub mod Corners
 pub mod Legs
 pub mod Outlines
 pub mod Closing
+pub mod Forms

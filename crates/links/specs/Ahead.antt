@@ -140,7 +140,7 @@ module _ (n : ℕ) (nums : List ℕ) where
 -- ---- where the next cycle starts
 
 module _ (n : ℕ) (nums : List ℕ) (small : n ≤ 8) (c : ℕ) (cs : List ℕ) (k : ℕ) (ahead : Ahead n nums (c ∷ cs) k) where
-  here-inside : c < 4 ^ n
+  pub here-inside : c < 4 ^ n
   here-inside = ahead .inside c (in-first c (cs ++ ahead .todo)) .0
 
   here-number : getD nums c 0 ≡ ahead .region

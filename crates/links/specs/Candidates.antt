@@ -16,10 +16,14 @@ use Rattle.links.specs.Rising.{rising-same}
 use Rattle.links.specs.TopRows.{topRow, top-row-held, top-row-rises, edge-in-top-row}
 use Rattle.links.specs.Links.{placesFrom, in-places, places-in, places-rise}
 
+-- The colour of the block at a place. Where the colours of a list are labels, it is the number of the block's region.
+abbrev pub colourAt : List Block → ℕ → ℕ
+colourAt bs j = blockAt bs j .colour
+
 -- The pixels of the top rows of the blocks of colour r from the place i on: blocks in list order, pixels from west to east.
 unfoldable pub rowsFrom : ℕ → List Block → ℕ → ℕ → List ℕ
 unfolding flatMap topRow placesFrom
-rowsFrom n bs r i = flatMap (λ j. topRow n (blockAt bs j)) (placesFrom bs r i)
+rowsFrom n bs r i = flatMap (λ j. topRow n (blockAt bs j)) (placesFrom (colourAt bs) (length bs) r i)
 
 module _ (n : ℕ) (bs : List Block) (covering : cover n 0 bs ≡ 0) (r : ℕ) where
   -- A candidate is a pixel of a block of colour r.
@@ -31,11 +35,11 @@ module _ (n : ℕ) (bs : List Block) (covering : cover n 0 bs ≡ 0) (r : ℕ) w
 
   pub in-rows : (i c : ℕ) → In c (rowsFrom n bs r i) → Candidate i c
   unfolding rowsFrom
-  in-rows i c w = from (in-flat (λ j. topRow n (blockAt bs j)) (placesFrom bs r i) c w)
+  in-rows i c w = from (in-flat (λ j. topRow n (blockAt bs j)) (placesFrom (colourAt bs) (length bs) r i) c w)
     where
-      from : (j : ℕ) × In j (placesFrom bs r i) × In c (topRow n (blockAt bs j)) → Candidate i c
+      from : (j : ℕ) × In j (placesFrom (colourAt bs) (length bs) r i) × In c (topRow n (blockAt bs j)) → Candidate i c
       from (j, p, q) =
-          let l = in-places bs r i j p in
+          let l = in-places (colourAt bs) (length bs) r i j p in
           record { block = j; from = l .0; holds = top-row-held n bs covering j (l .1) c q; colour = l .2 }
 
   pub candidate-inside : (i c : ℕ) → In c (rowsFrom n bs r i) → c < 4 ^ n
@@ -48,11 +52,11 @@ module _ (n : ℕ) (bs : List Block) (covering : cover n 0 bs ≡ 0) (r : ℕ) w
   pub rows-rise : (i : ℕ) → Ordered _<_ (rowsFrom n bs r i)
   unfolding rowsFrom
   rows-rise i =
-      ordered-flat _<_ _<_ (λ j. topRow n (blockAt bs j)) (placesFrom bs r i) (places-rise bs r i)
-      (λ j w. top-row-rises n bs covering j (in-places bs r i j w .1))
+      ordered-flat _<_ _<_ (λ j. topRow n (blockAt bs j)) (placesFrom (colourAt bs) (length bs) r i) (places-rise (colourAt bs) (length bs) r i)
+      (λ j w. top-row-rises n bs covering j (in-places (colourAt bs) (length bs) r i j w .1))
       (λ j k a b v w l p q.
-        let f = top-row-held n bs covering j (in-places bs r i j v .1) a p in
-        let g = top-row-held n bs covering k (in-places bs r i k w .1) b q in
+        let f = top-row-held n bs covering j (in-places (colourAt bs) (length bs) r i j v .1) a p in
+        let g = top-row-held n bs covering k (in-places (colourAt bs) (length bs) r i k w .1) b q in
         omega (arith, f .before, g .from, pixels-grow bs (suc j) k l))
 
   -- Where the colours are the region numbers, the cycles of region r start at candidates only, and in their order.
@@ -69,8 +73,8 @@ module _ (n : ℕ) (bs : List Block) (covering : cover n 0 bs ≡ 0) (r : ℕ) w
           let s : StartAt n (paint bs) a = start-says n (paint bs) small a (h .0) (h .2) in
           let p : HoldsAt bs (holder bs a) a = pixel-held n bs covering a (h .0) in
           keep-in (startsIn n (paint bs) r) (rowsFrom n bs r 0) a
-          (flat-in (λ j. topRow n (blockAt bs j)) (placesFrom bs r 0) (holder bs a) a
-          (places-in bs r 0 (holder bs a) (omega arith) (p .place) (sym (held-colour bs (holder bs a) a p) ∙ h .1))
+          (flat-in (λ j. topRow n (blockAt bs j)) (placesFrom (colourAt bs) (length bs) r 0) (holder bs a) a
+          (places-in (colourAt bs) (length bs) r 0 (holder bs a) (omega arith) (p .place) (sym (held-colour bs (holder bs a) a p) ∙ h .1))
           (edge-in-top-row n bs covering small (holder bs a) a p (s .north)))
           (k .1)
 

@@ -92,6 +92,21 @@ module _ (n : ℕ) (nums : List ℕ) where
         corner-count-fits n nums (4 ^ n) small,
       )
 
+  pub count-grows : (j k : ℕ) → j ≤ k → cornerCount (firstCycles n nums j) ≤ cornerCount (firstCycles n nums k)
+  unfolding cornerCount firstCycles
+  count-grows j k h =
+      let more : List Cycle = map (cycleAt n nums) (take (k - j) (drop j (allStarts n nums))) in
+      let e : k ≡ j + (k - j) = omega arith in
+      let two : firstCycles n nums k ≡ firstCycles n nums j ++ more =
+      ap (λ (i : ℕ). map (cycleAt n nums) (take i (allStarts n nums))) e
+      ∙ ap (map (cycleAt n nums)) (take-add j (k - j) (allStarts n nums))
+      ∙ map-append (cycleAt n nums) (take j (allStarts n nums)) (take (k - j) (drop j (allStarts n nums))) in
+      omega (
+        arith,
+        ap length (ap allCorners two ∙ corners-append (firstCycles n nums j) more),
+        length-append (allCorners (firstCycles n nums j)) (allCorners more),
+      )
+
   -- One cycle more, which starts at the pixel c.
   module _ (k c : ℕ) (rest : List ℕ) (next : drop k (allStarts n nums) ≡ c ∷ rest) where
     pub some-left : k < length (allStarts n nums)

@@ -21,7 +21,7 @@ use Rattle.grid.specs.Listing.{keep, startsIn, starts, startCodes, listing}
 use Rattle.grid.specs.Keeping.{in-starts}
 use Rattle.links.specs.TopRows.{topRow}
 use Rattle.links.specs.Links.{placesFrom, in-range-from, in-places, places-here, places-later, Next}
-use Rattle.links.specs.Candidates.{rowsFrom, rows-rise, candidate-inside, candidate-number, starts-along-rows}
+use Rattle.links.specs.Candidates.{colourAt, rowsFrom, rows-rise, candidate-inside, candidate-number, starts-along-rows}
 use Rattle.links.specs.Ahead.{allStarts, keep-same, Ahead, drop-part}
 use Rattle.links.specs.FirstCycles.{firstCycles, startsFrom, starts-from-more, no-starts-from, first-all, all-regions}
 
@@ -35,19 +35,19 @@ pub record Labelled (n : ℕ) (bs : List Block) : Type 0 where
 -- ---- the chain of a region's blocks
 
 module _ (n : ℕ) (bs : List Block) (r : ℕ) where
-  pub rows-next : (i j : ℕ) → Next bs r i j → rowsFrom n bs r i ≡ topRow n (blockAt bs j) ++ rowsFrom n bs r (suc j)
+  pub rows-next : (i j : ℕ) → Next (colourAt bs) (length bs) r i j → rowsFrom n bs r i ≡ topRow n (blockAt bs j) ++ rowsFrom n bs r (suc j)
   unfolding rowsFrom flatMap
   rows-next i j w = ap (flatMap (λ k. topRow n (blockAt bs k))) (w .then)
 
-  pub rows-none : (i : ℕ) → placesFrom bs r i ≡ [] → rowsFrom n bs r i ≡ []
+  pub rows-none : (i : ℕ) → placesFrom (colourAt bs) (length bs) r i ≡ [] → rowsFrom n bs r i ≡ []
   unfolding rowsFrom flatMap
   rows-none i e = ap (flatMap (λ k. topRow n (blockAt bs k))) e
 
   -- Where no block before i has the colour, the chain from i on is the whole chain.
-  places-from-first : (i : ℕ) → i ≤ length bs → ((j : ℕ) → j < i → blockAt bs j .colour ≢ r) → placesFrom bs r 0 ≡ placesFrom bs r i
+  places-from-first : (i : ℕ) → i ≤ length bs → ((j : ℕ) → j < i → blockAt bs j .colour ≢ r) → placesFrom (colourAt bs) (length bs) r 0 ≡ placesFrom (colourAt bs) (length bs) r i
   places-from-first zero l none = refl
   places-from-first (suc i) l none =
-      places-from-first i (omega arith) (λ j h. none j (omega arith)) ∙ places-later bs r i (omega arith) (none i (omega arith))
+      places-from-first i (omega arith) (λ j h. none j (omega arith)) ∙ places-later (colourAt bs) (length bs) r i (omega arith) (none i (omega arith))
 
   pub rows-from-first : (i : ℕ) → i ≤ length bs → ((j : ℕ) → j < i → blockAt bs j .colour ≢ r) → rowsFrom n bs r 0 ≡ rowsFrom n bs r i
   unfolding rowsFrom

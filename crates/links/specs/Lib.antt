@@ -6,3 +6,6 @@ pub mod Candidates
 pub mod Ahead
 pub mod FirstCycles
 pub mod Forward
+pub mod Relabelled
+pub mod Linking
+pub mod OverTwice

@@ -58,6 +58,9 @@ fn evens8(c: u32) -> u32
 fn evens16(c: u32) -> u16
     ensures { λ r. ⌜ r ≡ column 16 c ⌝ }
 {
+    if c < 65536 {
+        return evens8(c) as u16;
+    }
     (evens8(c) + 256 * evens8(c / 65536)) as u16
 }
 

@@ -1,3 +1,6 @@
 -- What the numbering of regions promises, and the laws its loops follow.
 pub mod Sides
 pub mod Walk
+pub mod Promise
+pub mod Labelling
+pub mod Callers

@@ -1,5 +1,45 @@
 // Region numbers of a block list: one walk over its blocks with the border between done and not done, then one pass that
-// turns the roots into numbers.
+// turns roots into numbers.
+ghost use mathlib.Core.Path.{_≡_};
+ghost use Rattle.regions.specs.Promise.{Numbering};
+ghost use Rattle.regions.specs.Labelling.{Numberable, Labelled};
+
 mod forest;
 mod numbering;
 mod walk;
+
+// The number of an answer, 0 for acceptance, and how many regions there are.
+pub struct Numbered {
+    pub number: u32,
+    pub regions: u32,
+}
+
+// Numbers the regions of an accepted list: in the label list, one entry a block, first parents, then numbers.
+fn label(n: u32, codes: &[u32], levels: &[u8], colours: &[u8], labels: &mut [u32], work: &mut [u32], need: usize) -> u32
+    requires { ⌜ Numberable n (now codes) (now levels) (now colours) (now labels) (now work) need ⌝ }
+    ensures { λ r. ⌜ Labelled n (now (codes .entry)) (now (levels .entry)) (now (colours .entry)) (now (work .entry)) (now (labels .exit)) (now (work .exit)) r ⌝ }
+{
+    forest::own_parents(labels);
+    walk::walk(n, codes, levels, colours, labels, work);
+    walk::fill(work, 0, need, 0);
+    numbering::number_all(labels)
+}
+
+// The region number of each block, and how many regions there are.
+pub fn number(n: u32, codes: &[u32], levels: &[u8], colours: &[u8], labels: &mut [u32], work: &mut [u32]) -> Numbered
+    ensures { λ r. ⌜ Numbering n (now (codes .entry)) (now (levels .entry)) (now (colours .entry)) (now (labels .entry)) (now (work .entry)) (now (labels .exit)) (now (work .exit)) r ⌝ }
+{
+    let fault = blocks::check(n, codes, levels, colours);
+    if fault != 0 {
+        return Numbered { number: fault, regions: 0 };
+    }
+    if labels.len() < codes.len() {
+        return Numbered { number: 8, regions: 0 };
+    }
+    let need = 2 * location::pixels(n);
+    if work.len() < need {
+        return Numbered { number: 8, regions: 0 };
+    }
+    let regions = label(n, codes, levels, colours, &mut labels[..codes.len()], work, need);
+    Numbered { number: 0, regions: regions }
+}

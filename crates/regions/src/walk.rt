@@ -62,11 +62,11 @@ pub(crate) fn fill(work: &mut [u32], from: usize, s: usize, v: u32)
     requires { ⌜ from + s ≤ length (now work) ⌝ }
     ensures { λ _. ⌜ now (work .exit) ≡ fill (now (work .entry)) from s v ⌝ }
 {
-    let end = from + s;
-    let mut x = from;
-    while x < end {
-        work[x] = v;
-        x += 1;
+    let last = from + s;
+    let mut i = from;
+    while i < last {
+        work[i] = v;
+        i += 1;
     }
 }
 

@@ -6,3 +6,7 @@ pub mod Rule
 pub mod Marks
 pub mod Walking
 pub mod Points
+pub mod Progress
+pub mod Unmarked
+pub mod Written
+pub mod Turn

@@ -3,17 +3,18 @@ use mathlib.Core.Path.{_≡_, refl, sym, ap, ap₂, _∙_, subst, subst₂}
 use mathlib.Core.Logic.{_≢_}
 use mathlib.Core.Bool.{cond}
 use mathlib.Core.List.{List}
-use Prim.Native.Nat.{ℕ, _+_, _*_, _≤_, _<_}
+use Prim.Native.Nat.{ℕ, _+_, _*_, _/_, _%_, _≤_, _<_}
 use native.Mathlib.Omega.{arith}
 use lib.ListN.{length, set}
 use lib.Dec.{eqb}
-use Rattle.lattice.specs.Directions.{move, edge, tail, digit, head}
+use Rattle.lattice.specs.Directions.{xOf, yOf, move, edge, digit, head}
 use Rattle.lattice.specs.Outlines.{tail-edge, digit-edge}
 use Rattle.grid.specs.Steps.{Edge, turn, step}
 use Rattle.grid.specs.Undoing.{step-is}
+use Rattle.grid.specs.East.{edge-bound}
 use Rattle.tracing.specs.Look.{mapAt, Square, at-margin}
 use Rattle.tracing.specs.Rule.{Way, way}
-use Rattle.tracing.specs.Marks.{mark, spot}
+use Rattle.tracing.specs.Marks.{mark, spot, mark-east, mark-other, EastPixel, east-pixel, region-known}
 use Rattle.tracing.specs.Walking.{Ready, Walked, Going, Passed, rest, begin, square-here, edge-here, map-then, long-then, square-then, room-here, pass, again, less, finish}
 
 pub head-edge : (p d : ℕ) → d < 4 → head (edge p d) ≡ move d p
@@ -38,6 +39,10 @@ left side s map p d = length (rest (mapAt side map) s (step (mapAt side map) (ed
 
 pub walking-from-start : {side r : ℕ} (start : ℕ) {map₀ out₀ : List ℕ} → Ready side r (edge start 0) map₀ out₀ → Walking side r (edge start 0) map₀ out₀ map₀ out₀ 0 4 start 0
 walking-from-start start ready = record { low = omega arith; going = begin ready (digit-edge start 0 (omega arith)) }
+
+pub start-small : {side r : ℕ} (start : ℕ) {map₀ out₀ : List ℕ} → Ready side r (edge start 0) map₀ out₀ → start < 131584
+unfolding edge
+start-small {side} {r} start {map₀} ready = omega (arith, edge-bound (mapAt side map₀) (at-margin side map₀ (ready .square .small)) r (4 * start + 0) (ready .on-region))
 
 module _ {side r s : ℕ} {map₀ out₀ : List ℕ} (ready : Ready side r s map₀ out₀) where
   module _ {map out : List ℕ} {used before p d : ℕ} (w : Walking side r s map₀ out₀ map out used before p d) where
@@ -88,3 +93,39 @@ module _ {side r s : ℕ} {map₀ out₀ : List ℕ} (ready : Ready side r s map
 
           pub walking-ends : edge p′ d′ ≡ s → Walked side r s map₀ out₀ map′ out′ used′
           walking-ends h = finish ready passed h
+
+-- The mark of such an edge, as the code finds its place.
+pub record EastPlace (side r : ℕ) (map : List ℕ) (p d : ℕ) : Type 0 where
+  pub row : p / 512 * side ≤ 65536
+  pub inside : p / 512 * side + p % 512 < side * side
+  pub known : r < 131072
+  pub after : mark side r map (edge p d) ≡ set map (p / 512 * side + p % 512) (r + 131072)
+
+module _ {side r p d : ℕ} {map : List ℕ} (a : Along side r map p d) where
+  spot-here : spot side (edge p d) ≡ p / 512 * side + p % 512
+  unfolding spot xOf yOf
+  spot-here = ap (λ q. q / 512 * side + q % 512) (tail-edge p d (a .low))
+
+  pub east-place : d ≡ 0 → EastPlace side r map p d
+  unfolding yOf
+  east-place z =
+      let o : digit (edge p d) ≡ 0 = digit-edge p d (a .low) ∙ z in
+      let e : EastPixel side r map (edge p d) = east-pixel (a .square) (edge p d) (a .on-region) o in
+      record {
+        row = subst (λ q. q / 512 * side ≤ 65536) (tail-edge p d (a .low)) (e .row);
+        inside = subst (λ q. q < side * side) spot-here (e .inside);
+        known = region-known (a .square) (edge p d) (a .on-region);
+        after = mark-east side r map (edge p d) o ∙ ap (λ q. set map q (r + 131072)) spot-here;
+      }
+
+  pub no-mark : d ≢ 0 → mark side r map (edge p d) ≡ map
+  no-mark n = mark-other side r map (edge p d) (λ h. n (sym (digit-edge p d (a .low)) ∙ h))
+
+-- The code's test for the start.
+pub at-start : (start p d : ℕ) → 4 * p + d ≡ 4 * start → edge p d ≡ edge start 0
+unfolding edge
+at-start start p d h = omega arith
+
+pub not-at-start : (start p d : ℕ) → 4 * p + d ≢ 4 * start → edge p d ≢ edge start 0
+unfolding edge
+not-at-start start p d n h = n (omega arith)

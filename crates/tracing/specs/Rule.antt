@@ -78,3 +78,11 @@ move-3 p zero a b c = absurd (a refl)
 move-3 p (suc zero) a b c = absurd (b refl)
 move-3 p (suc (suc zero)) a b c = absurd (c refl)
 move-3 p (suc (suc (suc d))) a b c = refl
+
+-- The point after a step is small.
+pub move-small : (p d : ℕ) → Way p d → move d p < 132096
+unfolding move
+move-small p zero w = omega (arith, w .small)
+move-small p (suc zero) w = omega (arith, w .small)
+move-small p (suc (suc zero)) w = omega (arith, w .small)
+move-small p (suc (suc (suc d))) w = omega (arith, w .small)

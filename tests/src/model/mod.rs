@@ -1,3 +1,5 @@
 //! A second implementation of document 01, written from its words and apart from the proved code.
 
 pub mod blocks;
+pub mod paths;
+pub mod pgm;

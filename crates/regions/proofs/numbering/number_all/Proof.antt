@@ -1,15 +1,12 @@
+-- The loop's invariant: the blocks before i have their numbers, the others their parents. A parent is smaller than its child, so it is
+-- numbered before. The measure: what is left of the list.
 use Rattle.unions.specs.Numbering.{Numbering, begin, up-le, again, finish}
-use mathlib.Core.Path.{_≡_, refl, sym, ap, _∙_}
-use mathlib.Core.Logic.{⊎-elim}
-use Prim.Native.Nat.{ℕ, _≤_, _<_, _-_, _+_}
+use Prim.Native.Nat.{_<_, _-_}
 use native.Mathlib.Omega.{arith}
-use lib.ListN.{length, take, drop, getD, set}
+use lib.ListN.{length}
 use borrow.Author.Needs.{needs}
 use Rattle.regions.proofs.numbering.number_all.Statement.{statement}
 use Rattle.regions.proofs.numbering.number_all.Tie as tie
-use Rattle.regions.proofs.numbering.number_all.Reads as reads
-use Rattle.regions.proofs.numbering.number_all.Lts as lts
-use Rattle.regions.proofs.numbering.number_block.Reads as number-block-reads
 
 abbrev Inv-loop : tie.InvT-loop
 Inv-loop labels₀ next₀ i₀ labels next i = Numbering labels₀ labels next i
@@ -17,37 +14,30 @@ Inv-loop labels₀ next₀ i₀ labels next i = Numbering labels₀ labels next 
 abbrev μ-loop : tie.MeasureT-loop
 μ-loop labels₀ next₀ i₀ labels next i = length labels₀ - i
 
--- src/numbering.rt:32:5
 loop-holds : tie.Need-loop-holds Inv-loop μ-loop
 loop-holds c = begin _
 
--- src/numbering.rt:33:9
 number-block-requires : tie.Need-number-block-requires Inv-loop μ-loop
 number-block-requires c κs =
     let l = c .before .before .loop in
     let less : l .i < length (c .before .before .before .before .args .labels .now) = omega arith in
     (c .before .loop-test .taken, omega (arith, up-le (c .before .before .before .before .pre .0) (l .inv) less), l .inv .few, omega (arith, l .inv .long, c .before .before .before .before .pre .1))
 
--- src/numbering.rt:34:9
 add-i : tie.Need-add-i Inv-loop μ-loop
 add-i c = search needs
 
--- src/numbering.rt:32:5
 loop-less : tie.Need-loop-less Inv-loop μ-loop
 loop-less c = search needs
 
--- src/numbering.rt:32:5
 loop-again : tie.Need-loop-again Inv-loop μ-loop
 loop-again c =
     let l = c .before .before .before .before .before .loop in
     let less : l .i < length (c .before .before .before .before .before .before .before .args .labels .now) = omega (arith, c .before .before .before .before .loop-test .taken, l .inv .long) in
     again (c .before .before .before .before .before .before .before .pre .0) (l .inv) less (c .before .before .number-block .ensures .0) (c .before .before .number-block .ensures .1)
 
--- src/numbering.rt:26:1
 same-length : tie.Need-same-length Inv-loop μ-loop
 same-length c = c .before .loop .inv .long
 
--- src/numbering.rt:26:1
 returns : tie.Need-returns Inv-loop μ-loop
 returns c = finish (c .before .loop .inv) (omega (arith, c .loop-test .left, c .before .loop .inv .long))
 

@@ -1,34 +1,26 @@
+-- Blocks of one colour are joined; where the colours differ nothing changes.
 use Rattle.regions.specs.Sides.{joined-alike, kept-unlike}
 use borrow.Author.Needs.{needs}
 use Rattle.regions.proofs.walk.join_alike.Statement.{statement}
 use Rattle.regions.proofs.walk.join_alike.Tie as tie
-use Rattle.regions.proofs.walk.join_alike.Reads as reads
-use Rattle.regions.proofs.walk.join_alike.Lts as lts
-use Rattle.regions.proofs.forest.join.Reads as join-reads
 
--- src/walk.rt:21:8
 shared-slice-read-if1 : tie.Need-shared-slice-read-if1
 shared-slice-read-if1 c = search needs
 
--- src/walk.rt:21:31
 shared-slice-read-if1-2 : tie.Need-shared-slice-read-if1-2
 shared-slice-read-if1-2 c = search needs
 
--- src/walk.rt:22:9
 join-requires : tie.Need-join-requires
 join-requires c κs = search needs
 
--- src/walk.rt:17:1
 same-length : tie.Need-same-length
 same-length c = search needs
 
--- src/walk.rt:17:1
 returns : tie.Need-returns
 returns c =
     let a = c .before .before .before .before .before .before .before .before .before .args in
     joined-alike (a .colours .now) (a .b) (a .k) (c .before .before .before .before .if1 .taken) (c .before .before .join .ensures)
 
--- src/walk.rt:17:1
 returns-2 : tie.Need-returns-2
 returns-2 c =
     let s = c .before .before .before .before .before in

@@ -1,25 +1,19 @@
+-- At the image's edge there is nothing to join; elsewhere the whole span is joined.
 use native.Mathlib.Omega.{arith}
 use Rattle.components.specs.Spans.{none-at-edge, all-inside}
 use borrow.Author.Needs.{needs}
 use Rattle.regions.proofs.walk.join_side.Statement.{statement}
 use Rattle.regions.proofs.walk.join_side.Tie as tie
-use Rattle.regions.proofs.walk.join_side.Reads as reads
-use Rattle.regions.proofs.walk.join_side.Lts as lts
-use Rattle.regions.proofs.walk.join_span.Reads as join-span-reads
 
--- src/walk.rt:46:9
 returns : tie.Need-returns
 returns c = let s = c .before .before .before .before in none-at-edge (s .args .z) _ (c .if1 .taken) (s .pre .low)
 
--- src/walk.rt:48:5
 join-span-requires : tie.Need-join-span-requires
 join-span-requires c κs = let s = c .before .before .before .before .before in s .pre .named (omega (arith, c .before .if1 .left))
 
--- src/walk.rt:41:1
 same-length : tie.Need-same-length
 same-length c = search needs
 
--- src/walk.rt:41:1
 returns-2 : tie.Need-returns-2
 returns-2 c = let s = c .before .before .before .before .before .before .before .before in all-inside (s .args .z) _ (omega (arith, c .before .before .before .before .if1 .left)) (c .before .before .join-span .ensures)
 

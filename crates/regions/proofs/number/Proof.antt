@@ -1,0 +1,74 @@
+-- The causes are asked in the document's order; what is left is an accepted list with room for its labels and for the border.
+use lib.Seq.{length-take-le}
+use Rattle.quadtree.specs.Number.{number}
+use Prim.Native.Nat.{_≤_, _*_, _^_}
+use mathlib.Core.Path.{_≡_, sym, _∙_}
+use native.Mathlib.Omega.{arith}
+use Rattle.regions.specs.Promise.{list-refused, labels-short, work-short}
+use Rattle.regions.specs.Labelling.{need-is, numberable, written}
+use borrow.Author.Needs.{needs}
+use Rattle.regions.proofs.number.Statement.{statement}
+use Rattle.regions.proofs.number.Tie as tie
+
+-- Past the first two tests: the list is accepted, and `need` is what the work list needs.
+abbrev entry : tie.After-pixels → tie.Start
+entry c = c .before .before .before .before .before .before .before .before .before
+
+accepted : (c : tie.After-pixels) → number (entry c .args .n) (entry c .args .codes .now) (entry c .args .levels .now) (entry c .args .colours .now) ≡ 0
+accepted c = sym (c .before .before .before .check .ensures) ∙ c .before .before .if1 .left
+
+need : (c : tie.After-pixels) → (c .pixels .result ≤ 65536) × (2 * c .pixels .result ≡ 2 * 4 ^ entry c .args .n)
+need c = need-is _ _ _ _ (accepted c) (c .pixels .ensures)
+
+check-requires : tie.Need-check-requires
+check-requires c κs = search needs
+
+returns : tie.Need-returns
+returns c = list-refused _ _ _ _ _ _ (omega (arith, c .if1 .taken)) (c .before .check .ensures)
+
+returns-2 : tie.Need-returns-2
+returns-2 c = labels-short _ _ _ _ _ _ (sym (c .before .before .check .ensures) ∙ c .before .if1 .left) (c .if2 .taken)
+
+pixels-requires : tie.Need-pixels-requires
+pixels-requires c κs = search needs
+
+mul-need : tie.Need-mul-need
+mul-need c = omega (arith, need c .0)
+
+returns-3 : tie.Need-returns-3
+returns-3 c = work-short _ _ _ _ _ _ (accepted (c .before)) (omega (arith, c .if3 .taken, need (c .before) .1))
+
+slice-relend-prefix-label : tie.Need-slice-relend-prefix-label
+slice-relend-prefix-label c = search needs
+
+slice-aggregate-label : tie.Need-slice-aggregate-label
+slice-aggregate-label c = sym (length-take-le _ _ (c .before .before .before .if2 .left))
+
+label-requires : tie.Need-label-requires
+label-requires c κs = numberable _ _ _ _ (c .before .before .before .before .before .before .before .before .before .before .before .before .args .labels .now) _ (accepted (c .before .before .before)) (c .before .before .before .before .if2 .left) (need (c .before .before .before) .1) (c .before .before .if3 .left)
+
+same-length : tie.Need-same-length
+same-length c = search needs
+
+same-length-2 : tie.Need-same-length-2
+same-length-2 c = search needs
+
+returns-4 : tie.Need-returns-4
+returns-4 c = written _ _ _ _ _ _ (accepted (c .before .before .before .before .before .before .before .before)) (c .before .before .before .before .before .before .before .before .before .if2 .left) (omega (arith, c .before .before .before .before .before .before .before .if3 .left, need (c .before .before .before .before .before .before .before .before) .1)) (c .before .before .before .before .label .ensures)
+
+pub number-spec : {M : Type 1} → statement M
+number-spec =
+    tie.close
+    (tie.spec
+    check-requires
+    returns
+    returns-2
+    pixels-requires
+    mul-need
+    returns-3
+    slice-relend-prefix-label
+    slice-aggregate-label
+    label-requires
+    same-length
+    same-length-2
+    returns-4)

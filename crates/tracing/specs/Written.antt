@@ -1,0 +1,167 @@
+-- From the walk in the code's numbers to the cycle of the definitions: the promise of writing one cycle.
+use mathlib.Core.Path.{_≡_, refl, sym, ap, ap₂, _∙_, subst, subst₂}
+use mathlib.Core.Logic.{_⊎_, inl, inr, _↔_}
+use mathlib.Core.List.{List}
+use Prim.Native.Nat.{ℕ, suc, _+_, _*_, _/_, _%_, _^_, _≤_, _<_}
+use native.Mathlib.Omega.{arith}
+use lib.Arith.{digits-lt}
+use lib.ListN.{length, getD}
+use Rattle.sequences.specs.Over.{over}
+use Rattle.sequences.specs.Powers.{square-of-side}
+use Rattle.location.specs.Codes.{code, column, row}
+use Rattle.location.specs.Interleaving.{column-of-code, row-of-code}
+use Rattle.location.specs.Levels.{sideOf, side-is-power}
+use Rattle.quadtree.specs.Raster.{place}
+use Rattle.quadtree.specs.Orders.{place-in, place-of-code, code-of-place}
+use Rattle.lattice.specs.Directions.{point, xOf, yOf, edge, tail, digit}
+use Rattle.lattice.specs.Walks.{corners}
+use Rattle.orbits.specs.Members.{In}
+use Rattle.grid.specs.Map.{regionAt}
+use Rattle.grid.specs.Steps.{Edge}
+use Rattle.grid.specs.Cycles.{cycleFrom, cornerOf, northSide, cycle, codeRight}
+use Rattle.grid.specs.North.{side-small, corner-x, corner-y, north-tail, north-digit, Eastward, eastward}
+use Rattle.grid.specs.Returning.{ring}
+use Rattle.grid.specs.Starting.{StartAt, margin}
+use Rattle.grid.specs.Closing.{corners-from-start}
+use Rattle.tracing.specs.Mapped.{numsOf, Mapped, Marked, entry-of-pixel, same-nums}
+use Rattle.tracing.specs.Promise.{StartsHere, CycleWritten}
+use Rattle.tracing.specs.Look.{mapAt, Square, row-small, map-is-region}
+use Rattle.tracing.specs.Marks.{spot, marks, Held, held-edges, length-marks, marks-same, marks-bounded, marks-beyond, marks-keep, marks-set, MarkOf, marks-tell}
+use Rattle.tracing.specs.Walking.{Ready, Walked, cornersFrom}
+
+-- The place of a north side's pixel, and that a place has one code.
+pub spot-of-north : (n c : ℕ) → n ≤ 8 → spot (2 ^ n) (northSide n c) ≡ place n c
+unfolding spot place
+spot-of-north n c small =
+    ap (λ p. yOf p * 2 ^ n + xOf p) (north-tail n c) ∙ ap₂ (λ y x. y * 2 ^ n + x) (corner-y n small c) (corner-x n small c)
+
+one-place : (n c d : ℕ) → c < 4 ^ n → d < 4 ^ n → place n c ≡ place n d → c ≡ d
+one-place n c d h k e = sym (code-of-place n c h) ∙ ap (λ j. code n (j % 2 ^ n) (j / 2 ^ n)) e ∙ code-of-place n d k
+
+module _ {n x y : ℕ} {map out : List ℕ} (h : StartsHere n map out x y) where
+  same-map : mapAt (2 ^ n) map ≡ regionAt n (numsOf n map)
+  same-map = map-is-region n map (h .mapped)
+
+  north-here : northSide n (code n x y) ≡ edge (512 * y + x) 0
+  unfolding northSide cornerOf point
+  north-here = ap₂ (λ a b. edge (512 * b + a) 0) (column-of-code n x y (h .x-inside)) (row-of-code n x y (h .y-inside))
+
+  region-here : getD map (y * 2 ^ n + x) 0 % 131072 ≡ suc (getD (numsOf n map) (code n x y) 0)
+  region-here = entry-of-pixel n map x y (h .mapped) (h .x-inside) (h .y-inside)
+
+  its-corners : cornersFrom (mapAt (2 ^ n) map) (edge (512 * y + x) 0) ≡ corners (cycle n (numsOf n map) (code n x y))
+  unfolding cornersFrom
+  its-corners =
+      ap₂ cornersFrom same-map (sym north-here)
+      ∙ sym (corners-from-start n (numsOf n map) (h .small) (code n x y) (h .starts))
+
+  its-edges : cycleFrom (mapAt (2 ^ n) map) (edge (512 * y + x) 0) ≡ cycle n (numsOf n map) (code n x y)
+  unfolding cycle
+  its-edges = ap₂ cycleFrom same-map (sym north-here)
+
+  square : Square (2 ^ n) map
+  square = record { small = side-small n (h .small); room = omega (arith, h .mapped .long, square-of-side n) }
+
+  first-edge : Edge (mapAt (2 ^ n) map) (getD map (y * 2 ^ n + x) 0 % 131072) (edge (512 * y + x) 0)
+  first-edge =
+      subst (λ m. Edge m (getD map (y * 2 ^ n + x) 0 % 131072) (edge (512 * y + x) 0)) (sym same-map)
+      (subst₂ (λ r e. Edge (regionAt n (numsOf n map)) r e) (sym region-here) north-here (h .starts .north))
+
+  -- What the walk asks.
+  pub ready-here : Ready (2 ^ n) (getD map (y * 2 ^ n + x) 0 % 131072) (edge (512 * y + x) 0) map out
+  ready-here = record { square = square; on-region = first-edge; room = omega (arith, ap length its-corners, h .room) }
+
+  -- The cycle keeps to the map.
+  held-here : Held (2 ^ n) (getD map (y * 2 ^ n + x) 0 % 131072) (2 ^ n * 2 ^ n) (cycle n (numsOf n map) (code n x y)) map
+  unfolding cycle
+  held-here =
+      held-edges square (edge (512 * y + x) 0) (cycle n (numsOf n map) (code n x y)) first-edge
+      (λ e i. subst₂ (λ m r. Edge m r e) (sym same-map) (sym region-here)
+          (ring (regionAt n (numsOf n map)) (margin n (numsOf n map) (h .small)) (suc (getD (numsOf n map) (code n x y) 0)) (northSide n (code n x y)) (h .starts .north) .edges e i))
+
+  -- What the walk leaves is the promise.
+  module _ {map′ out′ : List ℕ} {k : ℕ} (w : Walked (2 ^ n) (getD map (y * 2 ^ n + x) 0 % 131072) (edge (512 * y + x) 0) map out map′ out′ k) where
+    its-marks : map′ ≡ marks (2 ^ n) (getD map (y * 2 ^ n + x) 0 % 131072) (cycle n (numsOf n map) (code n x y)) map
+    its-marks = w .marked ∙ ap (λ es. marks (2 ^ n) (getD map (y * 2 ^ n + x) 0 % 131072) es map) its-edges
+
+    entry : (j : ℕ) → getD map′ j 0 ≡ getD (marks (2 ^ n) (getD map (y * 2 ^ n + x) 0 % 131072) (cycle n (numsOf n map) (code n x y)) map) j 0
+    entry j = ap (λ l. getD l j 0) its-marks
+
+    same-entries : (j : ℕ) → getD map′ j 0 % 131072 ≡ getD map j 0 % 131072
+    same-entries j = ap (λ v. v % 131072) (entry j) ∙ marks-same held-here j
+
+    long-as-before : length map′ ≡ length map
+    long-as-before = ap length its-marks ∙ length-marks (2 ^ n) (getD map (y * 2 ^ n + x) 0 % 131072) (cycle n (numsOf n map) (code n x y)) map
+
+    -- The pixel that an edge of the cycle marks is the one south of it.
+    marks-north : (d : ℕ) → d < 4 ^ n → MarkOf (2 ^ n) (cycle n (numsOf n map) (code n x y)) (place n d) → In (northSide n d) (cycle n (numsOf n map) (code n x y))
+    unfolding cycle codeRight spot
+    marks-north d l m =
+        let e : ℕ = m .from in
+        let g : Edge (regionAt n (numsOf n map)) (suc (getD (numsOf n map) (code n x y) 0)) e =
+        ring (regionAt n (numsOf n map)) (margin n (numsOf n map) (h .small)) (suc (getD (numsOf n map) (code n x y) 0)) (northSide n (code n x y)) (h .starts .north) .edges e (m .stands) in
+        let a : Eastward n (numsOf n map) (h .small) (suc (getD (numsOf n map) (code n x y) 0)) e = eastward n (numsOf n map) (h .small) (suc (getD (numsOf n map) (code n x y) 0)) e g (m .east) in
+        let q : codeRight n e ≡ d = one-place n (codeRight n e) d (a .below) l (place-of-code n (xOf (tail e)) (yOf (tail e)) (a .x-below) (a .y-below) ∙ m .place) in
+        subst (λ b. In b (cycle n (numsOf n map) (code n x y))) (a .north ∙ ap (northSide n) q) (m .stands)
+
+    marked-there : (d : ℕ) → d < 4 ^ n → Marked n map′ d ↔ (Marked n map d ⊎ In (northSide n d) (cycle n (numsOf n map) (code n x y)))
+    unfolding Marked
+    marked-there d l = (λ b. tell (marks-tell held-here (place n d) (subst (λ v. 131072 ≤ v) (entry (place n d)) b)), λ b. subst (λ v. 131072 ≤ v) (sym (entry (place n d))) (set b))
+      where
+        tell : (131072 ≤ getD map (place n d) 0) ⊎ MarkOf (2 ^ n) (cycle n (numsOf n map) (code n x y)) (place n d)
+            → (131072 ≤ getD map (place n d) 0) ⊎ In (northSide n d) (cycle n (numsOf n map) (code n x y))
+        tell (inl b) = inl b
+        tell (inr m) = inr (marks-north d l m)
+
+        set : (131072 ≤ getD map (place n d) 0) ⊎ In (northSide n d) (cycle n (numsOf n map) (code n x y))
+            → 131072 ≤ getD (marks (2 ^ n) (getD map (y * 2 ^ n + x) 0 % 131072) (cycle n (numsOf n map) (code n x y)) map) (place n d) 0
+        set (inl b) = marks-keep held-here (place n d) b
+        set (inr i) = subst (λ j. 131072 ≤ getD (marks (2 ^ n) (getD map (y * 2 ^ n + x) 0 % 131072) (cycle n (numsOf n map) (code n x y)) map) j 0) (spot-of-north n d (h .small)) (marks-set held-here (northSide n d) i (north-digit n d))
+
+    pub cycle-written : CycleWritten n map out (code n x y) map′ out′ k
+    cycle-written = record {
+      count = w .count ∙ ap length its-corners;
+      list = w .list ∙ ap (λ l. over l out) its-corners;
+      mapped = record {
+        long = omega (arith, h .mapped .long, long-as-before);
+        numbered = λ j l. omega (arith, h .mapped .numbered j l, same-entries j);
+        bounded = λ j l. omega (arith, entry j, marks-bounded held-here j (h .mapped .bounded j l));
+      };
+      same-numbers = same-nums n map map′ (λ j l. same-entries j);
+      same-length = long-as-before;
+      beyond = λ j l. entry j ∙ marks-beyond held-here j (omega (arith, square-of-side n));
+      marked = marked-there;
+    }
+
+  -- The same with the code's side.
+  module _ {side : ℕ} (e : side ≡ sideOf n) where
+    side-here : side ≡ 2 ^ n
+    side-here = e ∙ side-is-power n (omega (arith, h .small))
+
+    pub record Numbers : Type 0 where
+      pub side-low : side ≤ 256
+      pub row : y * side ≤ 65536
+      pub inside : y * side + x < length map
+      pub x-low : x < 256
+      pub y-low : y < 256
+
+    pub numbers : Numbers
+    numbers =
+        let w : 2 ^ n ≤ 256 = side-small n (h .small) in
+        let b : x < 256 = omega (arith, h .x-inside) in
+        let d : y < 256 = omega (arith, h .y-inside) in
+        let i : y * side + x < side * side = digits-lt (omega (arith, side-here, h .y-inside)) (omega (arith, side-here, h .x-inside)) in
+        record {
+          side-low = omega (arith, side-here);
+          row = row-small side y (omega (arith, side-here)) (omega arith);
+          inside = omega (arith, i, ap (λ s. s * s) side-here, square-of-side n, h .mapped .long);
+          x-low = b;
+          y-low = d;
+        }
+
+    pub ready-to-walk : Ready side (getD map (y * side + x) 0 % 131072) (edge (512 * y + x) 0) map out
+    ready-to-walk = subst (λ s. Ready s (getD map (y * s + x) 0 % 131072) (edge (512 * y + x) 0) map out) (sym side-here) ready-here
+
+    pub walk-is-cycle : {map′ out′ : List ℕ} {k : ℕ} → Walked side (getD map (y * side + x) 0 % 131072) (edge (512 * y + x) 0) map out map′ out′ k
+        → CycleWritten n map out (code n x y) map′ out′ k
+    walk-is-cycle {map′} {out′} {k} w = cycle-written (subst (λ s. Walked s (getD map (y * s + x) 0 % 131072) (edge (512 * y + x) 0) map out map′ out′ k) side-here w)
