@@ -1,10 +1,10 @@
 //! Times the proved library against a plain Rust implementation of the same job, on the same pictures in one run.
 
-mod answers;
 #[path = "../../samples/dial.rs"]
 mod dial;
 mod inputs;
-mod library;
+#[path = "../../examples/nettlestair.rs"]
+mod nettlestair;
 mod pictures;
 mod plain;
 mod random;

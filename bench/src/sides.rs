@@ -1,7 +1,7 @@
 //! The two sides that are timed, and what is lent to both.
 
-use crate::answers::{Numbered, Traced, Written};
-use crate::{library, plain};
+use crate::nettlestair::{Numbered, Traced, Written};
+use crate::{nettlestair, plain};
 
 /// A block list.
 #[derive(Clone, Copy)]
@@ -39,11 +39,17 @@ pub struct Side {
 }
 
 pub const LIBRARY: Side = Side {
-    check: library::check,
-    number: library::number,
-    trace: library::trace,
-    blocks_from_raster: library::blocks_from_raster,
-    raster_from_blocks: library::raster_from_blocks,
+    check: |n, blocks| nettlestair::check(n, blocks.codes, blocks.levels, blocks.colours),
+    number: |n, blocks, labels, work| nettlestair::number(n, blocks.codes, blocks.levels, blocks.colours, labels, work),
+    trace: |n, blocks, lent| {
+        let Blocks { codes, levels, colours } = blocks;
+        let Lent { labels, work, owners, ends, corners } = lent;
+        nettlestair::trace(n, codes, levels, colours, labels, work, owners, ends, corners)
+    },
+    blocks_from_raster: nettlestair::blocks_from_raster,
+    raster_from_blocks: |n, blocks, raster| {
+        nettlestair::raster_from_blocks(n, blocks.codes, blocks.levels, blocks.colours, raster)
+    },
 };
 
 pub const PLAIN: Side = Side {

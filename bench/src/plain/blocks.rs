@@ -1,7 +1,7 @@
 //! Block lists: the check, raster to blocks, blocks to raster.
 
 use super::location::place;
-use crate::answers::Written;
+use crate::nettlestair::Written;
 use crate::sides::Blocks;
 
 /// Causes 1 to 7, in one pass over the blocks.

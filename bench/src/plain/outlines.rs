@@ -4,7 +4,7 @@
 use super::blocks::{check, fill_square};
 use super::location::{pixel, place};
 use super::regions::number_blocks;
-use crate::answers::Traced;
+use crate::nettlestair::Traced;
 use crate::sides::{Blocks, Lent};
 
 /// Set in a map entry once the north side of its pixel is walked.
@@ -57,7 +57,6 @@ fn link(labels: &[u32], links: &mut [u32], heads: &mut [u32]) {
 }
 
 /// Lists the cycles region by region, each region's in rising code of their starts; returns how many cycles and corners.
-#[allow(clippy::too_many_arguments)]
 fn list(
     map: &mut Map,
     blocks: Blocks,

@@ -2,7 +2,7 @@
 
 use super::blocks::check;
 use super::location::pixel;
-use crate::answers::Numbered;
+use crate::nettlestair::Numbered;
 use crate::sides::Blocks;
 
 pub fn number(n: u32, blocks: Blocks, labels: &mut [u32], work: &mut [u32]) -> Numbered {
