@@ -30,6 +30,15 @@ cyclesIn os es cs count = cyclesFrom os es cs count 0 count
 unfoldable pub endsLine : List ℕ → ℕ → ℕ → Bool
 endsLine os count k = leb count (k + 1) || not (eqb (getD os (k + 1) 0) (getD os k 0))
 
+module _ (os : List ℕ) (count k : ℕ) where
+  pub line-at-end : count ≤ k + 1 → true ≡ endsLine os count k
+  unfolding endsLine
+  line-at-end h = ap (λ (b : Bool). b || not (eqb (getD os (k + 1) 0) (getD os k 0))) (sym (le-leb count (k + 1) h))
+
+  pub line-by-owners : k + 1 < count → not (eqb (getD os (k + 1) 0) (getD os k 0)) ≡ endsLine os count k
+  unfolding endsLine
+  line-by-owners h = ap (λ (b : Bool). b || not (eqb (getD os (k + 1) 0) (getD os k 0))) (sym (lt-leb count (k + 1) h))
+
 module _ (os es cs : List ℕ) (count k : ℕ) where
   -- The cycles left, with the first of them taken off.
   pub cycle-next : k < count → cyclesFrom os es cs count k (count - k)
@@ -44,12 +53,12 @@ module _ (os es cs : List ℕ) (count k : ℕ) where
   cycles-end h = let e : count - k ≡ 0 = omega arith in rw e refl
 
   pub ends-line : isLast (getD os k 0) (cyclesFrom os es cs count (k + 1) (count - (k + 1))) ≡ endsLine os count k
-  unfolding isLast cyclesFrom endsLine
+  unfolding isLast cyclesFrom
   ends-line = pick (count - (k + 1)) refl
     where
       pick : (left : ℕ) → count - (k + 1) ≡ left → isLast (getD os k 0) (cyclesFrom os es cs count (k + 1) left) ≡ endsLine os count k
-      pick zero e = ap (λ (b : Bool). b || not (eqb (getD os (k + 1) 0) (getD os k 0))) (sym (le-leb count (k + 1) (omega arith)))
-      pick (suc left) e = ap (λ (b : Bool). b || not (eqb (getD os (k + 1) 0) (getD os k 0))) (sym (lt-leb count (k + 1) (omega arith)))
+      pick zero e = line-at-end os count k (omega arith)
+      pick (suc left) e = line-by-owners os count k (omega arith)
 
 -- Lists that agree with a listing, entry by entry, hold it.
 agreeing : (os es cs : List ℕ) (count k : ℕ) (l : List Cycle) → ((i : ℕ) → i < length l → getD os (k + i) 0 ≡ getD (owners l) i 0)
@@ -62,8 +71,8 @@ agreeing os es cs count k (c ∷ l) same parts =
     let part : stretchOf cs es count k ≡ c .points = ap (stretchOf cs es count) z ∙ parts 0 (omega arith) in
     let next : (i : ℕ) → suc k + i ≡ k + suc i = λ i. omega arith in
     let rest : cyclesFrom os es cs count (suc k) (length l) ≡ l =
-        agreeing os es cs count (suc k) l (λ i h. ap (λ (j : ℕ). getD os j 0) (next i) ∙ same (suc i) (omega arith))
-        (λ i h. ap (stretchOf cs es count) (next i) ∙ parts (suc i) (omega arith)) in
+    agreeing os es cs count (suc k) l (λ i h. ap (λ (j : ℕ). getD os j 0) (next i) ∙ same (suc i) (omega arith))
+    (λ i h. ap (stretchOf cs es count) (next i) ∙ parts (suc i) (omega arith)) in
     λ i. record { region = here i; points = part i } ∷ rest i
 
 begin-same : (es : List ℕ) (k : ℕ) → beginOf es k ≡ beginFrom 0 es k
@@ -79,9 +88,9 @@ module _ (l : List Cycle) (os es cs : List ℕ) where
       let s : StretchIn l k (over (ends l) es) (over (allCorners l) cs) = stretch-over l k h es cs in
       let b : beginOf (over (ends l) es) k ≡ beginFrom 0 (over (ends l) es) k = begin-same (over (ends l) es) k in
       let t : holds (length (over (allCorners l) cs)) (over (ends l) es) (length l) k ≡ true =
-          some-stretch (length (over (allCorners l) cs)) (over (ends l) es) (length l) k h
-          (omega (arith, length-append (ends l) (drop (length (ends l)) es), length-ends l)) (omega (arith, s .rises))
-          (omega (arith, s .stays, length-append (allCorners l) (drop (length (allCorners l)) cs))) in
+      some-stretch (length (over (allCorners l) cs)) (over (ends l) es) (length l) k h
+      (omega (arith, length-append (ends l) (drop (length (ends l)) es), length-ends l)) (omega (arith, s .rises))
+      (omega (arith, s .stays, length-append (allCorners l) (drop (length (allCorners l)) cs))) in
       rw (t, b) (s .holds)
 
   pub tracing-held : cyclesIn (over (owners l) os) (over (ends l) es) (over (allCorners l) cs) (length l) ≡ l

@@ -2,3 +2,8 @@
 pub mod Lines
 pub mod Outlines
 pub mod Held
+pub mod Writing
+pub mod Picturing
+pub mod Printed
+pub mod Printable
+pub mod Examples

@@ -140,11 +140,11 @@ module _ (f : ℕ → List Cycle) where
       let rest : List Cycle = flatMap f (range (suc a) k) in
       let gone : NoneOf a rest = later (suc a) k more a (omega arith) in
       let first : dataOf a (f a) ≡ dataOf a (f a ++ rest) =
-          sym (data-append a (f a) rest ∙ ap (λ (l : List ℕ). dataOf a (f a) ++ l) (no-data a rest gone) ∙ simp append-nil) in
+      sym (data-append a (f a) rest ∙ ap (λ (l : List ℕ). dataOf a (f a) ++ l) (no-data a rest gone) ∙ simp append-nil) in
       let others : flatMap (line rest) (range (suc a) k) ≡ flatMap (line (f a ++ rest)) (range (suc a) k) =
-          flat-same (line rest) (line (f a ++ rest)) (suc a) k
-          (λ r l. ap (λ (x : List ℕ). x ++ (10 ∷ [])) (sym (data-append r (f a) rest
-          ∙ ap (λ (x : List ℕ). x ++ dataOf r rest) (no-data r (f a) (none-of-others a r (f a) (λ e. omega arith) (here .1)))))) in
+      flat-same (line rest) (line (f a ++ rest)) (suc a) k
+      (λ r l. ap (λ (x : List ℕ). x ++ (10 ∷ [])) (sym (data-append r (f a) rest
+      ∙ ap (λ (x : List ℕ). x ++ dataOf r rest) (no-data r (f a) (none-of-others a r (f a) (λ e. omega arith) (here .1)))))) in
       one-region a (f a) rest (here .0) (here .1) gone
       ∙ ap₂ (λ (x y : List ℕ). (x ++ (10 ∷ [])) ++ y) first (cycles-give-lines (suc a) k more ∙ others)
 

@@ -41,11 +41,11 @@ module _ {n : ℕ} {cs ls ks labels₀ work₀ labels₁ work₁ : List ℕ} {r 
       let some : 0 < numberingNumber n cs ls ks labels₀ work₀ = omega (arith, number-answered) in (
         ap (λ (a : Numbered). a .regions) (p .answer) ∙ count-refused (numberingNumber n cs ls ks labels₀ work₀) (regions n (paint (blocks cs ls ks))) some,
         p .in-labels
-        ∙ ap (λ (l : List ℕ). over l labels₀) (written-refused (numberingNumber n cs ls ks labels₀ work₀) (labels n (blocks cs ls ks)) some)
-        ∙ over-none labels₀,
+            ∙ ap (λ (l : List ℕ). over l labels₀) (written-refused (numberingNumber n cs ls ks labels₀ work₀) (labels n (blocks cs ls ks)) some)
+            ∙ over-none labels₀,
         p .in-work
-        ∙ ap (λ (l : List ℕ). over l work₀) (written-refused (numberingNumber n cs ls ks labels₀ work₀) (replicate (2 * 4 ^ n) 0) some)
-        ∙ over-none work₀,
+            ∙ ap (λ (l : List ℕ). over l work₀) (written-refused (numberingNumber n cs ls ks labels₀ work₀) (replicate (2 * 4 ^ n) 0) some)
+            ∙ over-none work₀,
       )
 
   module _ (ok : r .number ≡ 0) where
@@ -107,7 +107,7 @@ module _ {n : ℕ} {cs ls ks labels₀ work₀ labels₁ work₁ : List ℕ} {r 
         → (getD labels₁ i 0 ≡ getD labels₁ j 0) ↔ Joined n (paint (blocks cs ls ks)) c d
     labels-equal-exactly-when-joined i j c d a b v w =
         let both =
-          accepted-labels-equal-exactly-when-joined n cs ls ks list-accepted i j c d (omega (arith, count passes)) (omega (arith, count passes)) v w in (
+        accepted-labels-equal-exactly-when-joined n cs ls ks list-accepted i j c d (omega (arith, count passes)) (omega (arith, count passes)) v w in (
           λ e. both .0 (sym (label-at-exit i a) ∙ e ∙ label-at-exit j b),
           λ q. label-at-exit i a ∙ both .1 q ∙ sym (label-at-exit j b),
         )

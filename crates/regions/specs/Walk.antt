@@ -86,7 +86,7 @@ module _ {n : ℕ} {cs ls ks : List ℕ} (passes : Passes n cs ls ks) {work₀ w
     pub again : {p′ work′ : List ℕ} → SidesJoined work w x y s ks k p p′ → work′ ≡ fill (fill work x s k) (w + y) s k → Walking n cs ls ks work₀ (k + 1) work′ p′
     again {p′} {work′} j e =
         let joined : SidesJoined work (2 ^ n) (column n (getD cs k 0)) (row n (getD cs k 0)) (2 ^ getD ls k 0) ks k p p′ =
-          rw (at .width, at .column, at .row, at .side) at j in
+        rw (at .width, at .column, at .row, at .side) at j in
         let kept : work′ ≡ fill (fill work (column n (getD cs k 0)) (2 ^ getD ls k 0) k) (2 ^ n + row n (getD cs k 0)) (2 ^ getD ls k 0) k =
-          rw (at .width, at .column, at .row, at .side) at e in
+        rw (at .width, at .column, at .row, at .side) at e in
         one-block-more passes g less (joined .north) (joined .west) kept

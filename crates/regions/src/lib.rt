@@ -15,7 +15,15 @@ pub struct Numbered {
 }
 
 // Numbers the regions of an accepted list: in the label list, one entry a block, first parents, then numbers.
-fn label(n: u32, codes: &[u32], levels: &[u8], colours: &[u8], labels: &mut [u32], work: &mut [u32], need: usize) -> u32
+fn label(
+    n: u32,
+    codes: &[u32],
+    levels: &[u8],
+    colours: &[u8],
+    labels: &mut [u32],
+    work: &mut [u32],
+    need: usize,
+) -> u32
     requires { ⌜ Numberable n (now codes) (now levels) (now colours) (now labels) (now work) need ⌝ }
     ensures { λ r. ⌜ Labelled n (now (codes .entry)) (now (levels .entry)) (now (colours .entry)) (now (work .entry)) (now (labels .exit)) (now (work .exit)) r ⌝ }
 {
@@ -26,20 +34,47 @@ fn label(n: u32, codes: &[u32], levels: &[u8], colours: &[u8], labels: &mut [u32
 }
 
 // The region number of each block, and how many regions there are.
-pub fn number(n: u32, codes: &[u32], levels: &[u8], colours: &[u8], labels: &mut [u32], work: &mut [u32]) -> Numbered
+pub fn number(
+    n: u32,
+    codes: &[u32],
+    levels: &[u8],
+    colours: &[u8],
+    labels: &mut [u32],
+    work: &mut [u32],
+) -> Numbered
     ensures { λ r. ⌜ Numbering n (now (codes .entry)) (now (levels .entry)) (now (colours .entry)) (now (labels .entry)) (now (work .entry)) (now (labels .exit)) (now (work .exit)) r ⌝ }
 {
     let fault = blocks::check(n, codes, levels, colours);
     if fault != 0 {
-        return Numbered { number: fault, regions: 0 };
+        return Numbered {
+            number: fault,
+            regions: 0,
+        };
     }
     if labels.len() < codes.len() {
-        return Numbered { number: 8, regions: 0 };
+        return Numbered {
+            number: 8,
+            regions: 0,
+        };
     }
     let need = 2 * location::pixels(n);
     if work.len() < need {
-        return Numbered { number: 8, regions: 0 };
+        return Numbered {
+            number: 8,
+            regions: 0,
+        };
     }
-    let regions = label(n, codes, levels, colours, &mut labels[..codes.len()], work, need);
-    Numbered { number: 0, regions: regions }
+    let regions = label(
+        n,
+        codes,
+        levels,
+        colours,
+        &mut labels[..codes.len()],
+        work,
+        need,
+    );
+    Numbered {
+        number: 0,
+        regions: regions,
+    }
 }

@@ -38,7 +38,15 @@ fn join_span(entries: &[u32], from: usize, s: usize, colours: &[u8], k: u32, par
 }
 
 // The same, or nothing where z is 0: there the block begins at the image's edge and has no neighbours on this side.
-fn join_side(z: usize, entries: &[u32], from: usize, s: usize, colours: &[u8], k: u32, parents: &mut [u32])
+fn join_side(
+    z: usize,
+    entries: &[u32],
+    from: usize,
+    s: usize,
+    colours: &[u8],
+    k: u32,
+    parents: &mut [u32],
+)
     requires { ⌜ Side z (now entries) from s (now colours) k (now parents) ⌝ }
     ensures { λ _. ⌜ Forest (now (parents .entry)) (joins (root (now (parents .entry))) (unlessFirst z (spanPairs (λ x. getD (now (entries .entry)) x 0) (now (colours .entry)) k from s))) (now (parents .exit)) ⌝ }
 {
@@ -49,7 +57,16 @@ fn join_side(z: usize, entries: &[u32], from: usize, s: usize, colours: &[u8], k
 }
 
 // Joins the block k, of side s at (x, y) in an image of side w, with all its neighbours of its colour in the north and in the west.
-fn join_sides(entries: &[u32], w: usize, x: usize, y: usize, s: usize, colours: &[u8], k: u32, parents: &mut [u32])
+fn join_sides(
+    entries: &[u32],
+    w: usize,
+    x: usize,
+    y: usize,
+    s: usize,
+    colours: &[u8],
+    k: u32,
+    parents: &mut [u32],
+)
     requires { ⌜ Sides (now entries) w x y s (now colours) k (now parents) ⌝ }
     ensures { λ _. ⌜ SidesJoined (now (entries .entry)) w x y s (now (colours .entry)) k (now (parents .entry)) (now (parents .exit)) ⌝ }
 {
@@ -80,7 +97,14 @@ fn store(work: &mut [u32], w: usize, x: usize, y: usize, s: usize, k: u32)
 }
 
 // Walks over the blocks in list order, each joined with its neighbours that are done.
-pub(crate) fn walk(n: u32, codes: &[u32], levels: &[u8], colours: &[u8], parents: &mut [u32], work: &mut [u32])
+pub(crate) fn walk(
+    n: u32,
+    codes: &[u32],
+    levels: &[u8],
+    colours: &[u8],
+    parents: &mut [u32],
+    work: &mut [u32],
+)
     requires { ⌜ Walkable n (now codes) (now levels) (now colours) (now parents) (now work) ⌝ }
     ensures { λ _. ⌜ Walking n (now (codes .entry)) (now (levels .entry)) (now (colours .entry)) (now (work .entry)) (length (now (codes .entry))) (now (work .exit)) (now (parents .exit)) ⌝ }
 {

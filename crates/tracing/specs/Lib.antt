@@ -9,4 +9,8 @@ pub mod Points
 pub mod Progress
 pub mod Unmarked
 pub mod Written
+pub mod Filling
 pub mod Turn
+pub mod Rows
+pub mod Blocks
+pub mod Going

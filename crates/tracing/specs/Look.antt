@@ -1,10 +1,9 @@
 -- The map with a margin that a list holds in rows, looked at from the four sides of a point.
-use mathlib.Core.Path.{_≡_, refl, sym, ap, ap₂, _∙_, fun-ext}
-use mathlib.Core.Logic.{_≢_}
+use mathlib.Core.Path.{_≡_, refl, sym, _∙_, fun-ext}
 use mathlib.Core.Bool.{true, false}
 use mathlib.Core.List.{List}
 use Prim.Native.Nat.{ℕ, zero, suc, _+_, _-_, _*_, _%_, _^_, _≤_, _<_}
-use native.Mathlib.Decide.{ℕ-discrete, decLe, decLt}
+use native.Mathlib.Decide.{ℕ-discrete, decLt}
 use native.Mathlib.Nat.{mul-le-mul-right}
 use native.Mathlib.Numerals.{add-one}
 use native.Mathlib.Omega.{arith}
@@ -12,11 +11,10 @@ use lib.Arith.{digits-lt}
 use lib.ListN.{length, getD}
 use lib.Dec.{ltb}
 use borrow.Author.Tests.{lt-ltb, le-ltb}
-use Rattle.sequences.specs.Powers.{pow2-mono, square-of-side}
 use Rattle.location.specs.Codes.{code}
-use Rattle.lattice.specs.Directions.{xOf, yOf, move}
+use Rattle.lattice.specs.Directions.{xOf, yOf}
 use Rattle.grid.specs.Map.{regionAt, around}
-use Rattle.grid.specs.Margins.{Margin, region-inside, region-east, region-south, region-margin}
+use Rattle.grid.specs.Margins.{Margin, region-inside, region-east, region-south}
 use Rattle.tracing.specs.Mapped.{numsOf, Mapped, entry-of-pixel}
 
 -- What a list of `side` rows holds at (X, Y) of the map with a margin: 0 outside, and no mark.

@@ -1,5 +1,5 @@
 -- The map of regions that a list holds row by row: 1 plus the region number of each pixel, and 131072 more where a mark stands.
-use mathlib.Core.Path.{_≡_, refl, sym, ap, _∙_}
+use mathlib.Core.Path.{_≡_, sym, ap, _∙_}
 use mathlib.Core.List.{List}
 use Prim.Native.Nat.{ℕ, suc, _+_, _-_, _*_, _%_, _^_, _≤_, _<_}
 use native.Mathlib.Omega.{arith}
@@ -47,5 +47,5 @@ entry-of-pixel n map x y m hx hy =
 pub same-nums : (n : ℕ) (map map′ : List ℕ) → ((j : ℕ) → j < 4 ^ n → getD map′ j 0 % 131072 ≡ getD map j 0 % 131072) → numsOf n map′ ≡ numsOf n map
 same-nums n map map′ same =
     ext-getD 0 (numsOf n map′) (numsOf n map) (length-nums n map′ ∙ sym (length-nums n map)) (λ c h.
-      let k : c < 4 ^ n = omega (arith, length-nums n map′) in
-      nums-at n map′ c k ∙ ap (λ v. v - 1) (same (place n c) (place-in n c)) ∙ sym (nums-at n map c k))
+    let k : c < 4 ^ n = omega (arith, length-nums n map′) in
+    nums-at n map′ c k ∙ ap (λ v. v - 1) (same (place n c) (place-in n c)) ∙ sym (nums-at n map c k))

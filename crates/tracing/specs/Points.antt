@@ -1,5 +1,5 @@
 -- The walk along one cycle in the code's numbers: an edge is its tail p and its digit d.
-use mathlib.Core.Path.{_≡_, refl, sym, ap, ap₂, _∙_, subst, subst₂}
+use mathlib.Core.Path.{_≡_, sym, ap, ap₂, _∙_, subst, subst₂}
 use mathlib.Core.Logic.{_≢_}
 use mathlib.Core.Bool.{cond}
 use mathlib.Core.List.{List}
@@ -13,9 +13,9 @@ use Rattle.grid.specs.Steps.{Edge, turn, step}
 use Rattle.grid.specs.Undoing.{step-is}
 use Rattle.grid.specs.East.{edge-bound}
 use Rattle.tracing.specs.Look.{mapAt, Square, at-margin}
-use Rattle.tracing.specs.Rule.{Way, way}
+use Rattle.tracing.specs.Rule.{Way, way, move-small}
 use Rattle.tracing.specs.Marks.{mark, spot, mark-east, mark-other, EastPixel, east-pixel, region-known}
-use Rattle.tracing.specs.Walking.{Ready, Walked, Going, Passed, rest, begin, square-here, edge-here, map-then, long-then, square-then, room-here, pass, again, less, finish}
+use Rattle.tracing.specs.Walking.{Ready, Walked, Going, Passed, rest, begin, square-here, edge-here, map-then, square-then, room-here, pass, again, less, finish}
 
 pub head-edge : (p d : ℕ) → d < 4 → head (edge p d) ≡ move d p
 unfolding head
@@ -40,7 +40,7 @@ left side s map p d = length (rest (mapAt side map) s (step (mapAt side map) (ed
 pub walking-from-start : {side r : ℕ} (start : ℕ) {map₀ out₀ : List ℕ} → Ready side r (edge start 0) map₀ out₀ → Walking side r (edge start 0) map₀ out₀ map₀ out₀ 0 4 start 0
 walking-from-start start ready = record { low = omega arith; going = begin ready (digit-edge start 0 (omega arith)) }
 
-pub start-small : {side r : ℕ} (start : ℕ) {map₀ out₀ : List ℕ} → Ready side r (edge start 0) map₀ out₀ → start < 131584
+start-small : {side r : ℕ} (start : ℕ) {map₀ out₀ : List ℕ} → Ready side r (edge start 0) map₀ out₀ → start < 131584
 unfolding edge
 start-small {side} {r} start {map₀} ready = omega (arith, edge-bound (mapAt side map₀) (at-margin side map₀ (ready .square .small)) r (4 * start + 0) (ready .on-region))
 
@@ -63,11 +63,11 @@ module _ {side r s : ℕ} {map₀ out₀ : List ℕ} (ready : Ready side r s map
 
       module _ {p′ d′ : ℕ} (hp : p′ ≡ move d p) (hd : d′ ≡ turn (mapAt side map′) r p′ d) where
         -- The code's next edge is the step's.
-        pub stepped : edge p′ d′ ≡ step (mapAt side map₀) (edge p d)
+        stepped : edge p′ d′ ≡ step (mapAt side map₀) (edge p d)
         stepped =
             ap₂ edge (hp ∙ sym (head-edge p d (w .low)))
             (hd ∙ ap₂ (λ m q. turn m r q d) (map-then ready (w .going) hm) (hp ∙ sym (head-edge p d (w .low)))
-                ∙ ap (turn (mapAt side map₀) r (head (edge p d))) (sym (digit-edge p d (w .low))))
+            ∙ ap (turn (mapAt side map₀) r (head (edge p d))) (sym (digit-edge p d (w .low))))
             ∙ sym (step-is (mapAt side map₀) (at-margin side map₀ (ready .square .small)) r (edge p d) (w .going .on-region))
 
         module _ {used′ : ℕ} {out′ : List ℕ} (hu : used′ ≡ cond (eqb before d) used (used + 1)) (ho : out′ ≡ cond (eqb before d) out (set out used p)) where
@@ -75,24 +75,51 @@ module _ {side r s : ℕ} {map₀ out₀ : List ℕ} (ready : Ready side r s map
           passed =
               subst (λ o. Passed side r s map₀ out₀ map′ out′ used′ o (edge p′ d′)) (digit-edge p d (w .low))
               (pass ready (w .going) (hu ∙ ap (λ o. cond (eqb before o) used (used + 1)) (sym (digit-edge p d (w .low))))
-                  (ho ∙ ap₂ (λ o q. cond (eqb before o) out (set out used q)) (sym (digit-edge p d (w .low))) (sym (tail-edge p d (w .low)))) hm stepped)
+              (ho ∙ ap₂ (λ o q. cond (eqb before o) out (set out used q)) (sym (digit-edge p d (w .low))) (sym (tail-edge p d (w .low)))) hm stepped)
 
-          pub walked-long : length map′ ≡ length map₀
-          walked-long = passed .long
-
-          pub walked-wide : length out′ ≡ length out₀
-          walked-wide = passed .wide
-
-          pub walking-again : d′ < 4 → edge p′ d′ ≢ s → Walking side r s map₀ out₀ map′ out′ used′ d p′ d′
+          walking-again : d′ < 4 → edge p′ d′ ≢ s → Walking side r s map₀ out₀ map′ out′ used′ d p′ d′
           walking-again l n = record { low = l; going = again ready passed n }
 
-          pub walking-less : edge p′ d′ ≢ s → left side s map₀ p′ d′ < left side s map₀ p d
+          walking-less : edge p′ d′ ≢ s → left side s map₀ p′ d′ < left side s map₀ p d
           unfolding left
           walking-less n =
               subst (λ e. length (rest (mapAt side map₀) s (step (mapAt side map₀) (edge p′ d′))) < length (rest (mapAt side map₀) s e)) stepped (less ready passed n)
 
-          pub walking-ends : edge p′ d′ ≡ s → Walked side r s map₀ out₀ map′ out′ used′
+          walking-ends : edge p′ d′ ≡ s → Walked side r s map₀ out₀ map′ out′ used′
           walking-ends h = finish ready passed h
+
+-- After one turn of the loop, before the test for the start.
+pub record Turned (side r start : ℕ) (map₀ out₀ map out : List ℕ) (used p d p′ d′ : ℕ) : Type 0 where
+  pub low : 4 * p′ + d′ < 1048576
+  pub start-low : start < 131584
+  pub long : length map ≡ length map₀
+  pub wide : length out ≡ length out₀
+  pub ends : 4 * p′ + d′ ≡ 4 * start → Walked side r (edge start 0) map₀ out₀ map out used
+  pub again : 4 * p′ + d′ ≢ 4 * start → Walking side r (edge start 0) map₀ out₀ map out used d p′ d′
+  pub less : 4 * p′ + d′ ≢ 4 * start → left side (edge start 0) map₀ p′ d′ < left side (edge start 0) map₀ p d
+
+at-start : (start p d : ℕ) → 4 * p + d ≡ 4 * start → edge p d ≡ edge start 0
+unfolding edge
+at-start start p d h = omega arith
+
+not-at-start : (start p d : ℕ) → 4 * p + d ≢ 4 * start → edge p d ≢ edge start 0
+unfolding edge
+not-at-start start p d n h = n (omega arith)
+
+module _ {side r : ℕ} (start : ℕ) {map₀ out₀ : List ℕ} (ready : Ready side r (edge start 0) map₀ out₀) {map out : List ℕ} {used before p d : ℕ}
+    (w : Walking side r (edge start 0) map₀ out₀ map out used before p d) where
+  pub turned : {map′ out′ : List ℕ} {used′ p′ d′ : ℕ} → map′ ≡ mark side r map (edge p d)
+      → (used′ ≡ cond (eqb before d) used (used + 1)) × (out′ ≡ cond (eqb before d) out (set out used p))
+      → p′ ≡ move d p → (d′ ≡ turn (mapAt side map′) r p′ d) × (d′ < 4) → Turned side r start map₀ out₀ map′ out′ used′ p d p′ d′
+  turned {map′} {out′} {used′} {p′} {d′} hm (hu, ho) hp (hd, l) = record {
+    low = omega (arith, move-small p d (walking-way ready w));
+    start-low = start-small start ready;
+    long = passed ready w hm hp hd hu ho .long;
+    wide = passed ready w hm hp hd hu ho .wide;
+    ends = λ h. walking-ends ready w hm hp hd hu ho (at-start start p′ d′ h);
+    again = λ n. walking-again ready w hm hp hd hu ho l (not-at-start start p′ d′ n);
+    less = λ n. walking-less ready w hm hp hd hu ho (not-at-start start p′ d′ n);
+  }
 
 -- The mark of such an edge, as the code finds its place.
 pub record EastPlace (side r : ℕ) (map : List ℕ) (p d : ℕ) : Type 0 where
@@ -120,12 +147,3 @@ module _ {side r p d : ℕ} {map : List ℕ} (a : Along side r map p d) where
 
   pub no-mark : d ≢ 0 → mark side r map (edge p d) ≡ map
   no-mark n = mark-other side r map (edge p d) (λ h. n (sym (digit-edge p d (a .low)) ∙ h))
-
--- The code's test for the start.
-pub at-start : (start p d : ℕ) → 4 * p + d ≡ 4 * start → edge p d ≡ edge start 0
-unfolding edge
-at-start start p d h = omega arith
-
-pub not-at-start : (start p d : ℕ) → 4 * p + d ≢ 4 * start → edge p d ≢ edge start 0
-unfolding edge
-not-at-start start p d n h = n (omega arith)

@@ -75,7 +75,7 @@ module _ {n : ℕ} {nums : List ℕ} {s₀ s : State} (room : Room n s₀) (l : 
       ap length (l .in-corners)
       ∙ length-over (allCorners (firstCycles n nums (s .cycles))) (s₀ .points) (omega (arith, corners-room n nums (room .small) (s .cycles), room .for-corners))
 
-  room-after : Room n s
+  pub room-after : Room n s
   room-after = record {
     small = room .small;
     for-owners = omega (arith, same-owners, room .for-owners);

@@ -48,11 +48,14 @@ module _ {n x y : ℕ} {s : State} (ok : PixelAsked n x y s) where
   pub pixel-of : PixelOf n (s .work) x y
   pixel-of = record { small = ok .asked .room .small; mapped = ok .asked .listed .mapped; x-inside = ok .x-inside; y-inside = ok .y-inside }
 
+  pub whole-small : 4 ^ n ≤ 65536
+  whole-small = pow4-mono small
+
   -- Nothing is written where no cycle starts.
-  pub silent : Tells n (s .work) (code n x y) 0 → Told n (code n x y ∷ []) s s
+  pub silent : {r : ℕ} → Tells n (s .work) (code n x y) r → r ≡ 0 → Told n (code n x y ∷ []) s s
   unfolding keep
-  silent (inl u) = absurd (omega (arith, u .region))
-  silent (inr (z, none)) = record { counted = omega (arith, ap length kept); listed = ok .asked .listed }
+  silent (inl u) zero-told = absurd (omega (arith, u .region))
+  silent (inr (z, none)) zero-told = record { counted = omega (arith, ap length kept); listed = ok .asked .listed }
     where
       not-start : (b : Bool) → isStart n (numsOf n (s .work)) (code n x y) ≡ b → isStart n (numsOf n (s .work)) (code n x y) ≡ false
       not-start false e = e
@@ -129,7 +132,7 @@ module _ {n x y : ℕ} {s : State} (ok : PixelAsked n x y s) where
 
     pub loud : {work′ tail′ : List ℕ} {k v : ℕ} → CycleWritten n (s .work) (midOf (s .at) (length (s .points) - s .at) (s .points)) (code n x y) work′ tail′ k → v ≡ r - 1
         → Told n (code n x y ∷ []) s
-          (state work′ (set (s .owned) (s .cycles) v) (set (s .ended) (s .cycles) (s .at + k)) (putMid (s .at) (length (s .points) - s .at) (s .points) tail′) (s .cycles + 1) (s .at + k))
+        (state work′ (set (s .owned) (s .cycles) v) (set (s .ended) (s .cycles) (s .at + k)) (putMid (s .at) (length (s .points) - s .at) (s .points) tail′) (s .cycles + 1) (s .at + k))
     unfolding cornerCount
     loud {work′} {tail′} {k} {v} w e =
         let m : List ℕ = numsOf n (s .work) in

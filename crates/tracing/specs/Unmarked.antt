@@ -7,7 +7,8 @@ use native.Mathlib.Nat.{add-mul}
 use native.Mathlib.Omega.{arith}
 use lib.Arith.{digits-lt}
 use lib.ListN.{length, getD}
-use Rattle.sequences.specs.Powers.{pow2-mono, square-of-side}
+use Rattle.sequences.specs.Powers.{pow2-mono, pow4-mono, square-of-side}
+use Rattle.location.specs.Levels.{sideOf, side-is-power}
 use Rattle.location.specs.Codes.{code}
 use Rattle.location.specs.Interleaving.{code-below, column-of-code, row-of-code}
 use Rattle.quadtree.specs.Raster.{place}
@@ -111,3 +112,34 @@ module _ {n : ℕ} {map : List ℕ} {x y : ℕ} (ok : PixelOf n map x y) where
 
       pub tells-edge : getD map (y * 2 ^ n + x - 2 ^ n) 0 % 131072 ≢ getD map (y * 2 ^ n + x) 0 → Tells n map (code n x y) (getD map (y * 2 ^ n + x) 0)
       tells-edge d = inl (record { north = an-edge (λ e. d (north-entry ∙ e ∙ sym (number-here plain))); no-mark = not-marked plain; region = number-here plain })
+
+-- The same with the side as the code has it.
+module _ {n : ℕ} {map : List ℕ} {x y : ℕ} (ok : PixelOf n map x y) {side : ℕ} (e : side ≡ sideOf n) where
+  wide : side ≡ 2 ^ n
+  wide = e ∙ side-is-power n (omega (arith, ok .small))
+
+  pub row-fits : y * side ≤ 65536
+  row-fits = rw wide (omega (arith, place-below ok, pow4-mono (ok .small)))
+
+  pub entry-below : y * side + x < 65536
+  entry-below = rw wide (omega (arith, place-below ok, pow4-mono (ok .small)))
+
+  pub entry-inside : y * side + x < length map
+  entry-inside = rw wide (omega (arith, place-below ok, ok .mapped .long))
+
+  pub entry-marked : 131072 ≤ getD map (y * side + x) 0 → Tells n map (code n x y) 0
+  entry-marked h = tells-marked ok (rw wide at h)
+
+  module _ (plain : getD map (y * side + x) 0 < 131072) where
+    pub entry-first-row : y ≡ 0 → Tells n map (code n x y) (getD map (y * side + x) 0)
+    entry-first-row z = rw wide (tells-first-row ok (rw wide at plain) z)
+
+    module _ (some : y ≡ 0 → ⊥) where
+      pub north-same : getD map (y * side + x - side) 0 % 131072 ≡ getD map (y * side + x) 0 → Tells n map (code n x y) 0
+      north-same h = tells-same ok some (rw wide at plain) (rw wide at h)
+
+      pub north-other : (getD map (y * side + x - side) 0 % 131072 ≡ getD map (y * side + x) 0 → ⊥) → Tells n map (code n x y) (getD map (y * side + x) 0)
+      north-other d = rw wide (tells-edge ok some (rw wide at plain) (λ h. d (rw wide h)))
+
+  pub row-above-entry : (y ≡ 0 → ⊥) → side ≤ y * side + x
+  row-above-entry some = rw wide (row-above ok some)

@@ -1,5 +1,5 @@
 -- From the walk in the code's numbers to the cycle of the definitions: the promise of writing one cycle.
-use mathlib.Core.Path.{_≡_, refl, sym, ap, ap₂, _∙_, subst, subst₂}
+use mathlib.Core.Path.{_≡_, sym, ap, ap₂, _∙_, subst, subst₂}
 use mathlib.Core.Logic.{_⊎_, inl, inr, _↔_}
 use mathlib.Core.List.{List}
 use Prim.Native.Nat.{ℕ, suc, _+_, _*_, _/_, _%_, _^_, _≤_, _<_}
@@ -8,12 +8,12 @@ use lib.Arith.{digits-lt}
 use lib.ListN.{length, getD}
 use Rattle.sequences.specs.Over.{over}
 use Rattle.sequences.specs.Powers.{square-of-side}
-use Rattle.location.specs.Codes.{code, column, row}
+use Rattle.location.specs.Codes.{code, row}
 use Rattle.location.specs.Interleaving.{column-of-code, row-of-code}
 use Rattle.location.specs.Levels.{sideOf, side-is-power}
 use Rattle.quadtree.specs.Raster.{place}
-use Rattle.quadtree.specs.Orders.{place-in, place-of-code, code-of-place}
-use Rattle.lattice.specs.Directions.{point, xOf, yOf, edge, tail, digit}
+use Rattle.quadtree.specs.Orders.{place-of-code, code-of-place}
+use Rattle.lattice.specs.Directions.{point, xOf, yOf, edge, tail}
 use Rattle.lattice.specs.Walks.{corners}
 use Rattle.orbits.specs.Members.{In}
 use Rattle.grid.specs.Map.{regionAt}
@@ -21,9 +21,9 @@ use Rattle.grid.specs.Steps.{Edge}
 use Rattle.grid.specs.Cycles.{cycleFrom, cornerOf, northSide, cycle, codeRight}
 use Rattle.grid.specs.North.{side-small, corner-x, corner-y, north-tail, north-digit, Eastward, eastward}
 use Rattle.grid.specs.Returning.{ring}
-use Rattle.grid.specs.Starting.{StartAt, margin}
+use Rattle.grid.specs.Starting.{margin}
 use Rattle.grid.specs.Closing.{corners-from-start}
-use Rattle.tracing.specs.Mapped.{numsOf, Mapped, Marked, entry-of-pixel, same-nums}
+use Rattle.tracing.specs.Mapped.{numsOf, Marked, entry-of-pixel, same-nums}
 use Rattle.tracing.specs.Promise.{StartsHere, CycleWritten}
 use Rattle.tracing.specs.Look.{mapAt, Square, row-small, map-is-region}
 use Rattle.tracing.specs.Marks.{spot, marks, Held, held-edges, length-marks, marks-same, marks-bounded, marks-beyond, marks-keep, marks-set, MarkOf, marks-tell}
@@ -77,7 +77,7 @@ module _ {n x y : ℕ} {map out : List ℕ} (h : StartsHere n map out x y) where
   held-here =
       held-edges square (edge (512 * y + x) 0) (cycle n (numsOf n map) (code n x y)) first-edge
       (λ e i. subst₂ (λ m r. Edge m r e) (sym same-map) (sym region-here)
-          (ring (regionAt n (numsOf n map)) (margin n (numsOf n map) (h .small)) (suc (getD (numsOf n map) (code n x y) 0)) (northSide n (code n x y)) (h .starts .north) .edges e i))
+      (ring (regionAt n (numsOf n map)) (margin n (numsOf n map) (h .small)) (suc (getD (numsOf n map) (code n x y) 0)) (northSide n (code n x y)) (h .starts .north) .edges e i))
 
   -- What the walk leaves is the promise.
   module _ {map′ out′ : List ℕ} {k : ℕ} (w : Walked (2 ^ n) (getD map (y * 2 ^ n + x) 0 % 131072) (edge (512 * y + x) 0) map out map′ out′ k) where

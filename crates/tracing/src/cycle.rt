@@ -46,8 +46,8 @@ fn walk(map: &mut [u32], side: u32, r: u32, start: u32, corners: &mut [u32]) -> 
     let mut p = start;
     let mut d: u8 = 0;
     loop {
-        used = put_corner(corners, used, before, p, d);
         mark_east(map, side, r, p, d);
+        used = put_corner(corners, used, before, p, d);
         before = d;
         p = next_point(p, d);
         d = next_digit(map, side, r, p, d);

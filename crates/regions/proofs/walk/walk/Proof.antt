@@ -23,7 +23,7 @@ head c = c .before .before .before .before .before .before .before
 
 here : (c : tie.After-side2 Inv-loop μ-loop)
     → Place (entry c .args .n) (entry c .args .codes .now) (entry c .args .levels .now) (head c .loop .k) (head c .before .side .result)
-      (c .before .before .before .before .column .result) (c .before .before .row .result) (c .side2 .result)
+    (c .before .before .before .before .column .result) (c .before .before .row .result) (c .side2 .result)
 here c =
     place (entry c .pre .passes) (head c .loop .inv) (c .before .before .before .before .before .before .loop-test .taken) (head c .before .side .ensures) (c .before .before .before .before .column .ensures)
     (c .before .before .row .ensures) (c .side2 .ensures)

@@ -1,62 +1,46 @@
+-- The list's map with a margin is that of the numbers it holds, so the walk is along the cycle of the definition.
 use native.Mathlib.Omega.{arith}
 use Rattle.tracing.specs.Written.{numbers, ready-to-walk, walk-is-cycle}
 use borrow.Author.Needs.{needs}
 use Rattle.tracing.proofs.cycle.write_cycle.Statement.{statement}
 use Rattle.tracing.proofs.cycle.write_cycle.Tie as tie
-use Rattle.tracing.proofs.cycle.write_cycle.Reads as reads
-use Rattle.tracing.proofs.cycle.write_cycle.Lts as lts
-use Rattle.location.proofs.side.Reads as side-reads
-use Rattle.tracing.proofs.cycle.walk.Reads as walk-reads
 
--- src/cycle.rt:65:16
 side-requires : tie.Need-side-requires
 side-requires c κs = search needs
 
--- src/cycle.rt:65:16
 cast-side : tie.Need-cast-side
 cast-side c = omega (arith, numbers (c .before .before .before .pre) (c .side .ensures) .side-low)
 
--- src/cycle.rt:66:14
 mul-i : tie.Need-mul-i
 mul-i c = omega (arith, numbers (c .before .before .before .pre) (c .side .ensures) .row)
 
--- src/cycle.rt:66:14
 add-i : tie.Need-add-i
 add-i c = let k = numbers (c .before .before .before .pre) (c .side .ensures) in omega (arith, k .row, k .x-low)
 
--- src/cycle.rt:66:13
 cast-i : tie.Need-cast-i
 cast-i c = let k = numbers (c .before .before .before .pre) (c .side .ensures) in omega (arith, k .row, k .x-low)
 
--- src/cycle.rt:67:13
 mul-r : tie.Need-mul-r
 mul-r c = let k = numbers (c .before .before .before .pre) (c .side .ensures) in omega (arith, k .row, k .x-low)
 
--- src/cycle.rt:67:13
 slice-read-r : tie.Need-slice-read-r
 slice-read-r c = numbers (c .before .before .before .before .pre) (c .before .side .ensures) .inside
 
--- src/cycle.rt:68:24
 mul-walk : tie.Need-mul-walk
 mul-walk c = omega (arith, numbers (c .before .before .before .before .before .pre) (c .before .before .side .ensures) .y-low)
 
--- src/cycle.rt:68:24
 add-walk : tie.Need-add-walk
 add-walk c = let k = numbers (c .before .before .before .before .before .pre) (c .before .before .side .ensures) in omega (arith, k .y-low, k .x-low)
 
--- src/cycle.rt:68:5
 walk-requires : tie.Need-walk-requires
 walk-requires c κs = ready-to-walk (c .before .before .before .before .before .before .pre) (c .before .before .before .side .ensures)
 
--- src/cycle.rt:61:1
 same-length : tie.Need-same-length
 same-length c = search needs
 
--- src/cycle.rt:61:1
 same-length-2 : tie.Need-same-length-2
 same-length-2 c = search needs
 
--- src/cycle.rt:61:1
 returns : tie.Need-returns
 returns c = walk-is-cycle (c .before .before .before .before .before .before .before .before .before .before .before .pre) (c .before .before .before .before .before .before .before .before .side .ensures) (c .before .before .before .before .walk .ensures)
 

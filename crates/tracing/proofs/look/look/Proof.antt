@@ -1,3 +1,4 @@
+-- Outside the image the map with a margin is 0; inside, the entry is in the list, since (y - 1) * side + (x - 1) is below side * side.
 use mathlib.Core.Path.{sym}
 use Prim.Native.Nat.{_-_}
 use native.Mathlib.Omega.{arith}
@@ -5,54 +6,40 @@ use Rattle.tracing.specs.Look.{at-west, at-north, at-east, at-south, at-
 use borrow.Author.Needs.{needs}
 use Rattle.tracing.proofs.look.look.Statement.{statement}
 use Rattle.tracing.proofs.look.look.Tie as tie
-use Rattle.tracing.proofs.look.look.Reads as reads
-use Rattle.tracing.proofs.look.look.Lts as lts
 
--- src/look.rt:16:9
 returns : tie.Need-returns
 returns c = let a = c .before .args in sym (at-west (a .side) (a .map .now) (a .x) (a .y) (c .if1 .taken))
 
--- src/look.rt:19:9
 returns-2 : tie.Need-returns-2
 returns-2 c = let a = c .before .before .args in sym (at-east (a .side) (a .map .now) (a .x) (a .y) (c .if2 .taken))
 
--- src/look.rt:22:9
 returns-3 : tie.Need-returns-3
 returns-3 c = let a = c .before .before .before .args in sym (at-north (a .side) (a .map .now) (a .x) (a .y) (c .if3 .taken))
 
--- src/look.rt:25:9
 returns-4 : tie.Need-returns-4
 returns-4 c = let a = c .before .before .before .before .args in sym (at-south (a .side) (a .map .now) (a .x) (a .y) (c .if4 .taken))
 
--- src/look.rt:27:15
 sub-i : tie.Need-sub-i
 sub-i c = search needs
 
--- src/look.rt:27:14
 mul-i : tie.Need-mul-i
 mul-i c = let a = c .before .before .before .before .args in omega (arith, row-small (a .side) (a .y - 1) (c .before .before .before .before .pre .small) (omega arith))
 
--- src/look.rt:27:32
 sub-i-2 : tie.Need-sub-i-2
 sub-i-2 c = search needs
 
--- src/look.rt:27:14
 add-i : tie.Need-add-i
 add-i c = let a = c .before .before .before .before .args in omega (arith, row-small (a .side) (a .y - 1) (c .before .before .before .before .pre .small) (omega arith))
 
--- src/look.rt:27:13
 cast-i : tie.Need-cast-i
 cast-i c = let a = c .before .before .before .before .args in omega (arith, row-small (a .side) (a .y - 1) (c .before .before .before .before .pre .small) (omega arith))
 
--- src/look.rt:28:5
 mul-result : tie.Need-mul-result
 mul-result c = let a = c .before .before .before .before .args in omega (arith, row-small (a .side) (a .y - 1) (c .before .before .before .before .pre .small) (omega arith))
 
--- src/look.rt:28:5
 shared-slice-read-result : tie.Need-shared-slice-read-result
 shared-slice-read-result c = let a = c .before .before .before .before .before .args in omega (arith, entry-below (a .side) (a .x) (a .y) (omega arith) (omega arith) (omega arith) (omega arith))
 
--- src/look.rt:11:1
 returns-5 : tie.Need-returns-5
 returns-5 c = let a = c .before .before .before .before .before .args in sym (at-entry (a .side) (a .map .now) (a .x) (a .y) (omega arith) (omega arith) (omega arith) (omega arith))
 

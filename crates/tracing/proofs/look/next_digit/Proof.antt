@@ -1,4 +1,5 @@
-use mathlib.Core.Path.{_≡_, refl, sym, ap, _∙_}
+-- The three cases of the rule of steps, in the definition's order.
+use mathlib.Core.Path.{sym, _∙_}
 use native.Mathlib.Omega.{arith}
 use Rattle.lattice.specs.Directions.{rightOf, leftOf}
 use Rattle.grid.specs.Undoing.{go-right, go-straight, go-left}
@@ -6,35 +7,25 @@ use Rattle.tracing.specs.Look.{mapAt}
 use borrow.Author.Needs.{needs}
 use Rattle.tracing.proofs.look.next_digit.Statement.{statement}
 use Rattle.tracing.proofs.look.next_digit.Tie as tie
-use Rattle.tracing.proofs.look.next_digit.Reads as reads
-use Rattle.tracing.proofs.look.next_digit.Lts as lts
-use Rattle.lattice.proofs.right.Reads as right-reads
-use Rattle.tracing.proofs.look.around.Reads as around-reads
 
--- src/look.rt:65:9
 around-requires : tie.Need-around-requires
 around-requires c κs = search needs
 
--- src/look.rt:67:9
 right-requires : tie.Need-right-requires
 right-requires c κs = search needs
 
--- src/look.rt:67:9
 returns : tie.Need-returns
 unfolding rightOf
 returns c =
     let a = c .before .before .before .before .args in
     (c .right .ensures ∙ sym (go-right (mapAt (a .side) (a .map .now)) (a .r) (a .p) (a .d) (λ e. c .before .if1 .taken (c .before .before .around .ensures ∙ e))), omega (arith, c .right .ensures))
 
--- src/look.rt:69:17
 add-left : tie.Need-add-left
 add-left c = search needs
 
--- src/look.rt:70:9
 around-requires-2 : tie.Need-around-requires-2
 around-requires-2 c κs = search needs
 
--- src/look.rt:72:9
 returns-2 : tie.Need-returns-2
 unfolding leftOf
 returns-2 c =
@@ -43,7 +34,6 @@ returns-2 c =
       omega arith,
     )
 
--- src/look.rt:61:1
 returns-3 : tie.Need-returns-3
 unfolding leftOf
 returns-3 c =

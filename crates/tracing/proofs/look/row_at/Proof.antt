@@ -1,23 +1,18 @@
+-- The two northern pixels around a point have the digits 1 and 2.
 use Rattle.tracing.specs.Rule.{row-1, row-2, row-other}
 use borrow.Author.Needs.{needs}
 use Rattle.tracing.proofs.look.row_at.Statement.{statement}
 use Rattle.tracing.proofs.look.row_at.Tie as tie
-use Rattle.tracing.proofs.look.row_at.Reads as reads
-use Rattle.tracing.proofs.look.row_at.Lts as lts
 
--- src/look.rt:46:14
 add-result : tie.Need-add-result
 add-result c = search needs
 
--- src/look.rt:39:1
 returns : tie.Need-returns
 returns c = row-1 _ _ (c .match .keys1)
 
--- src/look.rt:39:1
 returns-2 : tie.Need-returns-2
 returns-2 c = row-2 _ _ (c .match .keys2)
 
--- src/look.rt:39:1
 returns-3 : tie.Need-returns-3
 returns-3 c = row-other _ _ (c .match .rest .0 .1) (c .match .rest .1)
 

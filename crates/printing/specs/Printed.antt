@@ -1,0 +1,79 @@
+-- What is printed for the bytes of a file: the lines of its outlines, or the line of a refusal; and what the function promises.
+use mathlib.Core.Path.{_≡_}
+use mathlib.Core.Bool.{true, false}
+use mathlib.Core.List.{List, [], _∷_, _++_}
+use Prim.Native.Nat.{ℕ, zero, suc, _*_, _^_}
+use lib.Dec.{ltb}
+use lib.ListN.{length}
+use Rattle.sequences.specs.Cases.{first, when}
+use Rattle.sequences.specs.Over.{over}
+use Rattle.quadtree.specs.Raster.{inCodeOrder}
+use Rattle.paths.specs.Decimal.{decimal}
+use Rattle.paths.specs.declared.Written.{Written}
+use Rattle.pgm.specs.Picture.{answer, stretch}
+use Rattle.printing.specs.Outlines.{imageText}
+
+-- "A refusal prints "refused ", the number and LF only" (document 01, "Path, chain and picture"): the bytes of the word and the blank,
+-- the digits of the number, and LF.
+unfoldable pub refusedLine : ℕ → List ℕ
+unfolding decimal
+refusedLine number = 114 ∷ 101 ∷ 102 ∷ 117 ∷ 115 ∷ 101 ∷ 100 ∷ 32 ∷ (decimal number ++ (10 ∷ []))
+
+-- "PGM: rising, the program's 15 before all" (document 01, "When the answer is a number"): 15 where there are more than 8,192 bytes,
+-- then 10 to 14; 0 for an accepted picture.
+unfoldable pub inputNumber : List ℕ → ℕ
+unfolding first when answer
+inputNumber bytes = first (when (ltb 8192 (length bytes)) 15) (answer bytes .number)
+
+-- The lines of an accepted picture: its raster in rising location code is the image.
+unfoldable pub pictureText : List ℕ → List ℕ
+unfolding imageText inCodeOrder answer stretch
+pictureText bytes = imageText (answer bytes .n) (inCodeOrder (answer bytes .n) (stretch bytes))
+
+-- What is printed where the number is this one, 0 for acceptance.
+unfoldable pub textFor : ℕ → List ℕ → List ℕ
+unfolding refusedLine pictureText
+textFor zero bytes = pictureText bytes
+textFor (suc k) bytes = refusedLine (suc k)
+
+-- The whole text that is printed for the bytes.
+unfoldable pub wholeText : List ℕ → List ℕ
+unfolding textFor inputNumber
+wholeText bytes = textFor (inputNumber bytes) bytes
+
+-- The need of the text list: 26 times 4^n for a picture, and the line itself for a refusal.
+unfoldable pub needFor : ℕ → List ℕ → ℕ
+unfolding refusedLine answer
+needFor zero bytes = 26 * 4 ^ answer bytes .n
+needFor (suc k) bytes = length (refusedLine (suc k))
+
+unfoldable pub textNeed : List ℕ → ℕ
+unfolding needFor inputNumber
+textNeed bytes = needFor (inputNumber bytes) bytes
+
+-- The number of the answer for a text list of the length `size`: 15, 10 to 14, and then 8.
+unfoldable pub printNumber : List ℕ → ℕ → ℕ
+unfolding first when inputNumber textNeed
+printNumber bytes size = first (inputNumber bytes) (when (ltb size (textNeed bytes)) 8)
+
+-- All of a text where the list is no shorter than the need, else nothing.
+unfoldable pub ifRoom : ℕ → ℕ → List ℕ → List ℕ
+ifRoom size need new = elim (ltb size need) [ true ↦ [] | false ↦ new ]
+
+-- What is written.
+unfoldable pub printed : List ℕ → ℕ → List ℕ
+unfolding ifRoom textNeed wholeText
+printed bytes size = ifRoom size (textNeed bytes) (wholeText bytes)
+
+-- What `print` promises of the bytes and the text, before and after, and of its answer.
+pub record Printing (bytes text bytes′ text′ : List ℕ) (answered : Written) : Type 0 where
+  pub number-is : answered .number ≡ printNumber bytes (length text)
+  pub count-is : answered .count ≡ length (printed bytes (length text))
+  pub in-text : text′ ≡ over (printed bytes (length text)) text
+  pub in-bytes : bytes′ ≡ bytes
+
+-- What the writer of a refusal's line promises.
+pub record Refusing (number : ℕ) (text text′ : List ℕ) (answered : Written) : Type 0 where
+  pub number-is : answered .number ≡ number
+  pub count-is : answered .count ≡ length (ifRoom (length text) (length (refusedLine number)) (refusedLine number))
+  pub in-text : text′ ≡ over (ifRoom (length text) (length (refusedLine number)) (refusedLine number)) text

@@ -1,0 +1,52 @@
+-- The loop's invariant: y rows are filled, and all other entries are as they were.
+use Rattle.blocks.specs.Filling.{RowsDone, rows-done-none, row-fits, rows-done-more, rows-done-all}
+use Prim.Native.Nat.{_-_}
+use native.Mathlib.Omega.{arith}
+use borrow.Author.Needs.{needs}
+use Rattle.tracing.proofs.map.fill_square.Statement.{statement}
+use Rattle.tracing.proofs.map.fill_square.Tie as tie
+
+abbrev Inv-loop : tie.InvT-loop
+Inv-loop map₀ w at s v from₀ y₀ map from y = RowsDone w at s y v from map₀ map
+
+abbrev μ-loop : tie.MeasureT-loop
+μ-loop map₀ w at s v from₀ y₀ map from y = s - y
+
+loop-holds : tie.Need-loop-holds Inv-loop μ-loop
+loop-holds c = rows-done-none
+
+fill-run-requires : tie.Need-fill-run-requires Inv-loop μ-loop
+fill-run-requires c κs = row-fits (c .before .before .before .before .pre .1) (c .before .before .loop .inv) (c .before .loop-test .taken)
+
+add-from : tie.Need-add-from Inv-loop μ-loop
+add-from c = omega (arith, row-fits (c .before .before .before .before .before .before .before .pre .1) (c .before .before .before .before .before .loop .inv) (c .before .before .before .before .loop-test .taken), c .before .before .before .before .before .before .before .pre .0, c .before .before .before .before .before .before .before .good, c .before .before .before .before .before .loop .inv .filled .long)
+
+add-y : tie.Need-add-y Inv-loop μ-loop
+add-y c = search needs
+
+loop-less : tie.Need-loop-less Inv-loop μ-loop
+loop-less c = search needs
+
+loop-again : tie.Need-loop-again Inv-loop μ-loop
+loop-again c = rows-done-more (c .before .before .before .before .before .before .before .pre .1) (c .before .before .before .before .before .loop .inv) (c .before .before .before .before .loop-test .taken) (c .before .before .fill-run .ensures)
+
+same-length : tie.Need-same-length Inv-loop μ-loop
+same-length c = c .before .loop .inv .filled .long
+
+returns : tie.Need-returns Inv-loop μ-loop
+returns c = rows-done-all (c .before .loop .inv) (c .loop-test .left)
+
+pub fill-square-spec : {M : Type 1} → statement M
+fill-square-spec =
+    tie.close
+    (tie.spec
+    Inv-loop
+    μ-loop
+    loop-holds
+    fill-run-requires
+    add-from
+    add-y
+    loop-less
+    loop-again
+    same-length
+    returns)
