@@ -14,7 +14,7 @@ pub fn needs(n: u32, blocks: usize) -> [usize; 5] {
 
 /// A block list as the model sees it: its number by causes 1 to 7 and, where that is 0, its regions.
 pub struct Model {
-    number: u32,
+    pub number: u32,
     needs: [usize; 5],
     labels: Vec<u32>,
     pub regions: Option<Regions>,

@@ -56,3 +56,29 @@ fn split(blocks: &mut Blocks, at: usize, level: u8) {
         blocks.colours.insert(at + 1, colour);
     }
 }
+
+/// One change of a list of bytes: another byte, or one more, or one less, or an end cut off.
+pub fn in_bytes(random: &mut Random, bytes: &mut Vec<u8>, likely: &[u8]) {
+    let at = random.below(bytes.len() + 1);
+    let byte = if random.below(4) == 0 { random.byte() } else { likely[random.below(likely.len())] };
+    match random.below(4) {
+        0 if at < bytes.len() => bytes[at] = byte,
+        1 if at < bytes.len() => drop(bytes.remove(at)),
+        2 => bytes.truncate(at),
+        _ => bytes.insert(at, byte),
+    }
+}
+
+/// One change of a corner list: a coordinate, a corner more or less, or another first corner.
+pub fn in_corners(random: &mut Random, corners: &mut Vec<u32>) {
+    let at = random.below(corners.len() + 1);
+    let near = [0, 1, 2, 255, 256, 257, 511][random.below(7)];
+    match random.below(6) {
+        0 if at < corners.len() => corners[at] = corners[at] - corners[at] % 512 + near,
+        1 if at < corners.len() => corners[at] = near * 512 + corners[at] % 512,
+        2 if at < corners.len() => corners[at] = random.word(),
+        3 if at < corners.len() => drop(corners.remove(at)),
+        4 => corners.rotate_left(at),
+        _ => corners.insert(at, near),
+    }
+}

@@ -43,6 +43,15 @@ fn merged(random: &mut Random, n: u32, colours: usize) -> Vec<u8> {
     raster
 }
 
+/// A random raster: noise or squares, of few colours or of many.
+pub fn any(random: &mut Random, n: u32) -> Vec<u8> {
+    let colours = [1, 2, 2, 3, 4, 256][random.below(6)];
+    match random.below(2) {
+        0 => drawn_at_random(random, n, colours),
+        _ => merged(random, n, colours),
+    }
+}
+
 /// A raster by the colour of each pixel.
 fn drawn(n: u32, colour: impl Fn(usize, usize) -> usize) -> Vec<u8> {
     let side = 1usize << n;

@@ -1,15 +1,17 @@
 //! Causes 1 to 8 of block lists: each alone, each pair that can occur together, and their order.
 
 use std::collections::BTreeSet;
-use tests::calls::{agrees, raster_from_blocks};
+use tests::calls::{agrees, number as numbering, raster_from_blocks};
 use tests::cases::Cases;
+use tests::expected::{needs, Model};
+use tests::faults;
 use tests::library::check;
 use tests::model::blocks::{conditions, number, paint, quadtree, Blocks};
 use tests::random::Random;
 use tests::rasters;
 
-/// Holds the check and blocks to raster to one number, with a raster that is long enough and with shorter ones: 8 is looked
-/// for after 1 to 7.
+/// Holds the check, blocks to raster and numbering to one number, with lists that are long enough and with shorter ones: 8 is
+/// looked for after 1 to 7.
 fn judged(what: &str, random: &mut Random, n: u32, blocks: &Blocks, expected: u32) {
     let Blocks { codes, levels, colours } = blocks;
     assert_eq!(check(n, codes, levels, colours), expected, "{what}: check of n = {n}, {blocks}");
@@ -22,6 +24,14 @@ fn judged(what: &str, random: &mut Random, n: u32, blocks: &Blocks, expected: u3
             _ => out.difference_from_refusal(expected),
         };
         agrees(format_args!("{what}: raster of {length} from n = {n}, {blocks}"), difference);
+    }
+    let model = Model::of(n, blocks);
+    assert_eq!(model.number, expected, "{what}: the model of n = {n}, {blocks}");
+    let [labels, work, ..] = needs(n, blocks.len());
+    for lengths in [[labels, work], [labels, work - 1], [labels.max(1) - 1, work], [0, 0]] {
+        let called = numbering(random, n, blocks, lengths);
+        let difference = called.difference(&model.numbering(lengths));
+        agrees(format_args!("{what}: numbers with lists of {lengths:?} from n = {n}, {blocks}"), difference);
     }
 }
 
