@@ -111,9 +111,8 @@ impl<A: Copy + PartialEq + Debug, const LISTS: usize> Called<A, LISTS> {
 pub fn number(random: &mut Random, n: u32, blocks: &Blocks, lengths: [usize; 2]) -> Called<Numbered, 2> {
     let mut lists = lengths.map(|length| Lent::new(random, length));
     let [labels, work] = lists.each_mut().map(Lent::lend);
-    let answer = handed_in(blocks, |Blocks { codes, levels, colours }| {
-        library::number(n, codes, levels, colours, labels, work)
-    });
+    let answer =
+        handed_in(blocks, |Blocks { codes, levels, colours }| library::number(n, codes, levels, colours, labels, work));
     Called { answer, lists }
 }
 

@@ -15,8 +15,7 @@ pub const FIGURE_5A_B: [Point; 4] = [(1, 1), (3, 1), (3, 3), (1, 3)];
 
 /// 000, figure 5(b): "the boundary of A as a single component".
 pub const FIGURE_5B: [u8; 16] = [1, 1, 1, 1, 1, 2, 1, 1, 1, 1, 3, 3, 1, 1, 3, 3];
-pub const FIGURE_5B_A: [Point; 10] =
-    [(0, 0), (4, 0), (4, 2), (2, 2), (2, 1), (1, 1), (1, 2), (2, 2), (2, 4), (0, 4)];
+pub const FIGURE_5B_A: [Point; 10] = [(0, 0), (4, 0), (4, 2), (2, 2), (2, 1), (1, 1), (1, 2), (2, 2), (2, 4), (0, 4)];
 
 /// 001, figure 1(a), "moving clockwise starting from the left of the uppermost border points", in a 16 by 16 array.
 pub const FIGURE_1A_CHAIN: &[u8] = b"0300333332221233303222221111110101030101";

@@ -166,14 +166,7 @@ pub fn raster_from_blocks(n: u32, codes: &[u32], levels: &[u8], colours: &[u8], 
 }
 
 /// The region number of each block, written to `labels`.
-pub fn number(
-    n: u32,
-    codes: &[u32],
-    levels: &[u8],
-    colours: &[u8],
-    labels: &mut [u32],
-    work: &mut [u32],
-) -> Numbered {
+pub fn number(n: u32, codes: &[u32], levels: &[u8], colours: &[u8], labels: &mut [u32], work: &mut [u32]) -> Numbered {
     // Each pointer comes with the length of its slice.
     unsafe {
         nettlestair_number(

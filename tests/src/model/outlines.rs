@@ -122,9 +122,7 @@ fn next(edges: &HashSet<Edge>, edge: Edge) -> Edge {
 /// "the tails of its edges whose direction differs from that of the edge before (the last edge stands before the first)"
 fn corners(cycle: &[Edge]) -> impl Iterator<Item = u32> + '_ {
     let before = |i: usize| cycle[(i + cycle.len() - 1) % cycle.len()].direction;
-    (0..cycle.len())
-        .filter(move |&i| cycle[i].direction != before(i))
-        .map(|i| corner(cycle[i].tail.0, cycle[i].tail.1))
+    (0..cycle.len()).filter(move |&i| cycle[i].direction != before(i)).map(|i| corner(cycle[i].tail.0, cycle[i].tail.1))
 }
 
 #[cfg(test)]
