@@ -1,0 +1,2 @@
+-- What the tracing's promise says where a caller stands.
+pub mod Reading
