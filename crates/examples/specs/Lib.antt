@@ -1,0 +1,2 @@
+-- Document 01's dials.
+pub mod Dials
