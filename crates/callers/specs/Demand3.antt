@@ -1,15 +1,15 @@
 -- Demand 3 where a caller stands: from the promise of an accepted tracing, what the lists at exit hold.
 use mathlib.Core.Path.{_≡_, refl, sym, ap, ap₂, _∙_, subst}
-use mathlib.Core.Logic.{_≢_, _⊎_, _↔_}
+use mathlib.Core.Logic.{_≢_}
 use mathlib.Core.Bool.{true}
 use mathlib.Core.List.{List, []}
 use Prim.Native.Nat.{ℕ, suc, _*_, _^_, _≤_, _<_}
 use native.Mathlib.Omega.{arith}
 use lib.ListN.{length, getD, replicate, length-replicate, getD-replicate}
-use Rattle.sequences.specs.Cases.{ifAccepted, written-accepted, written-refused}
+use Rattle.sequences.specs.Cases.{written-accepted, written-refused}
 use Rattle.sequences.specs.Over.{over, over-none, over-inside, over-beyond}
 use Rattle.sequences.specs.Ranges.{tabulate}
-use Rattle.quadtree.specs.Blocks.{Block, blocks, paint}
+use Rattle.quadtree.specs.Blocks.{blocks, paint}
 use Rattle.quadtree.specs.Number.{number}
 use Rattle.quadtree.specs.Accepted.{Passes, number-zero}
 use Rattle.components.specs.Numbers.{numbers, labels, regions}
@@ -22,8 +22,8 @@ use Rattle.lattice.specs.CycleForm.{cycleForm}
 use Rattle.orbits.specs.Members.{In, Distinct, one-place}
 use Rattle.grid.specs.Map.{regionAt}
 use Rattle.grid.specs.Steps.{Edge, step}
-use Rattle.grid.specs.Cycles.{cycle, northSide}
-use Rattle.grid.specs.Listing.{startCodes, Cycle, listing, owners, ends, allCorners, pointsAt, cycleCount, cornerCount}
+use Rattle.grid.specs.Cycles.{cycle}
+use Rattle.grid.specs.Listing.{startCodes, Cycle, owners, ends, allCorners, pointsAt, cycleCount, cornerCount}
 use Rattle.grid.specs.Listed.{SidesOnce, OutlinesListed, listing-length, points-at, outline-at, ring-at, each-side-once, all-outlines-listed}
 use Rattle.grid.specs.Bounds.{cycles-fit, corner-count-fits}
 use Rattle.grid.specs.Forms.{listed-is-cycle-form}
@@ -32,7 +32,7 @@ use Rattle.grid.specs.Starting.{margin}
 use Rattle.grid.specs.Stretches.{length-owners, length-ends, last-end}
 use Rattle.grid.specs.Pinches.{meeting-turns-right}
 use Rattle.paths.specs.Stretch.{stretchOf}
-use Rattle.regions.specs.Promise.{Numbering, countIfAccepted, count-accepted, count-refused, numbered}
+use Rattle.regions.specs.Promise.{Numbering, count-accepted, count-refused, numbered}
 use Rattle.regions.specs.Callers.{labelOfPixel, labels-by-least-codes}
 use Rattle.tracing.specs.Tracing.{Lent, tracingNumber, outlinesOf, cyclesWritten, labelsLeft, zerosLeft, regionsListed, Tracing, Needs, needs-met}
 use Rattle.tracing.specs.declared.Traced.{Traced}

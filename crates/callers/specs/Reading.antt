@@ -1,5 +1,5 @@
 -- The cycles that an owner, an end and a corner list hold, read by the stretch of each cycle.
-use mathlib.Core.Path.{_≡_, refl, sym, ap, ap₂, _∙_}
+use mathlib.Core.Path.{_≡_, refl, sym, ap, _∙_}
 use mathlib.Core.Bool.{Bool, cond}
 use mathlib.Core.List.{List, [], _∷_, map}
 use Prim.Native.Nat.{ℕ, zero, suc, _+_, _-_, _≤_, _<_}
@@ -8,7 +8,7 @@ use lib.ListN.{length, getD, take, drop, length-map}
 use lib.Seq.{ext-getD}
 use Rattle.sequences.specs.Over.{over, length-over, over-inside}
 use Rattle.sequences.specs.Ranges.{range, length-range}
-use Rattle.grid.specs.Listing.{Cycle, owners, ends, allCorners, pointsAt, cycleCount, cornerCount}
+use Rattle.grid.specs.Listing.{Cycle, owners, ends, allCorners, pointsAt, cornerCount}
 use Rattle.grid.specs.Stretches.{beginFrom, length-owners, length-ends, StretchIn, stretch-over}
 use Rattle.paths.specs.Stretch.{beginOf, endOf, holds, startOf, lengthOf, stretchOf, some-stretch}
 

@@ -2,7 +2,7 @@
 -- cycle that was listed before.
 use mathlib.Core.Path.{_≡_, refl, sym, ap, _∙_, subst}
 use mathlib.Core.Logic.{_≢_, _⊎_, inl, inr, _↔_}
-use mathlib.Core.Bool.{Bool, true, false, false≢true}
+use mathlib.Core.Bool.{Bool, true, false}
 use mathlib.Core.List.{List, [], _∷_, _++_, append-assoc}
 use Prim.Native.Nat.{ℕ, suc, _+_, _^_, _≤_, _<_}
 use native.Mathlib.Omega.{arith}
@@ -15,7 +15,7 @@ use Rattle.grid.specs.Cycles.{northSide, cycle, isStart}
 use Rattle.grid.specs.Listing.{keep, startCodes}
 use Rattle.grid.specs.Keeping.{keep-yes, keep-no, in-keep, in-start-codes, start-codes-distinct}
 use Rattle.grid.specs.Starting.{StartAt, start-says, says-start}
-use Rattle.grid.specs.Unseen.{OnCycleOf, Origin, origin, start-unseen, first-in-cycle}
+use Rattle.grid.specs.Unseen.{Origin, origin, start-unseen}
 
 -- The start pixels of all cycles of an image, in the order of the listing: its region numbers are below 4^n.
 unfoldable pub allStarts : ℕ → List ℕ → List ℕ

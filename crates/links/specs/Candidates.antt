@@ -1,11 +1,11 @@
 -- Where the cycles of a region can start: along the top rows of its blocks, in list order.
-use mathlib.Core.Path.{_≡_, refl, sym, ap, _∙_, subst}
-use mathlib.Core.List.{List, [], _∷_, _++_, flatMap}
+use mathlib.Core.Path.{_≡_, sym, _∙_}
+use mathlib.Core.List.{List, flatMap}
 use Prim.Native.Nat.{ℕ, suc, _^_, _≤_, _<_}
 use native.Mathlib.Omega.{arith}
-use lib.ListN.{length, take, getD}
+use lib.ListN.{length, getD}
 use Rattle.sequences.specs.Ranges.{range}
-use Rattle.quadtree.specs.Blocks.{Block, pixels, paint}
+use Rattle.quadtree.specs.Blocks.{Block, paint}
 use Rattle.quadtree.specs.Number.{cover}
 use Rattle.components.specs.Holders.{blockAt, holder, HoldsAt, pixels-grow, held-colour, held-in-image, pixel-held}
 use Rattle.orbits.specs.Members.{In, Ordered, in-flat, flat-in, ordered-flat}

@@ -1,5 +1,5 @@
 -- The first cycles of the listing: what they add to the owner, end and corner lists, and that there is room for them.
-use mathlib.Core.Path.{_≡_, refl, sym, ap, ap₂, _∙_, subst}
+use mathlib.Core.Path.{_≡_, refl, sym, ap, ap₂, _∙_}
 use mathlib.Core.List.{List, [], _∷_, _++_, map, flatMap, append-assoc, append-nil}
 use Prim.Native.Nat.{ℕ, zero, suc, _+_, _-_, _*_, _^_, _≤_, _<_}
 use native.Mathlib.Omega.{arith}
@@ -9,7 +9,7 @@ use Rattle.sequences.specs.Ranges.{range, range-append}
 use Rattle.lattice.specs.Walks.{corners}
 use Rattle.orbits.specs.Members.{In, in-first}
 use Rattle.grid.specs.Cycles.{cycle}
-use Rattle.grid.specs.Listing.{starts, startCodes, Cycle, cycleAt, listing, owners, endsFrom, ends, allCorners, cycleCount, cornerCount}
+use Rattle.grid.specs.Listing.{starts, startCodes, Cycle, cycleAt, listing, owners, endsFrom, ends, allCorners, cornerCount}
 use Rattle.grid.specs.Keeping.{in-starts, starts-fit}
 use Rattle.grid.specs.Bounds.{corner-count-fits}
 use Rattle.grid.specs.Stretches.{length-owners, length-ends}

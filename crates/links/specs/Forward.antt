@@ -1,9 +1,8 @@
 -- Going forward over the blocks of a list whose colours are labels: each region is met first at its first block, in the order of
 -- the numbers, and its chain of blocks holds the starts of its cycles.
 use mathlib.Core.Path.{_≡_, refl, sym, ap, _∙_, subst}
-use mathlib.Core.Logic.{_≢_, _⊎_, inl, inr}
-use mathlib.Core.Bool.{Bool, true, false}
-use mathlib.Core.List.{List, [], _∷_, _++_, flatMap, append-nil}
+use mathlib.Core.Logic.{_≢_}
+use mathlib.Core.List.{List, [], _++_, flatMap, append-nil}
 use Prim.Native.Nat.{ℕ, zero, suc, _+_, _-_, _^_, _≤_, _<_}
 use native.Mathlib.Decide.{decLt, ℕ-discrete}
 use native.Mathlib.Numerals.{add-one}
@@ -20,10 +19,10 @@ use Rattle.grid.specs.Cycles.{isStart}
 use Rattle.grid.specs.Listing.{keep, startsIn, starts, startCodes, listing}
 use Rattle.grid.specs.Keeping.{in-starts}
 use Rattle.links.specs.TopRows.{topRow}
-use Rattle.links.specs.Links.{placesFrom, in-range-from, in-places, places-here, places-later, Next}
+use Rattle.links.specs.Links.{placesFrom, in-range-from, places-later, Next}
 use Rattle.links.specs.Candidates.{colourAt, rowsFrom, rows-rise, candidate-inside, candidate-number, starts-along-rows}
 use Rattle.links.specs.Ahead.{allStarts, keep-same, Ahead, drop-part}
-use Rattle.links.specs.FirstCycles.{firstCycles, startsFrom, starts-from-more, no-starts-from, first-all, all-regions}
+use Rattle.links.specs.FirstCycles.{firstCycles, startsFrom, starts-from-more, no-starts-from, first-all}
 
 -- A list of blocks that covers the image, with labels for colours: below 4^n, and before a label comes, every smaller one has come.
 pub record Labelled (n : ℕ) (bs : List Block) : Type 0 where

@@ -1,16 +1,15 @@
 -- Places with one label linked: from each place on the next with a label, and the chain of all of them.
-use mathlib.Core.Path.{_≡_, refl, sym, ap, _∙_, subst}
+use mathlib.Core.Path.{_≡_, sym, ap, _∙_, subst}
 use mathlib.Core.Logic.{_≢_, _↔_}
-use mathlib.Core.Bool.{Bool, true, false, false≢true}
-use mathlib.Core.List.{List, [], _∷_, _++_}
+use mathlib.Core.Bool.{Bool, true, false}
+use mathlib.Core.List.{List, [], _∷_}
 use Prim.Native.Nat.{ℕ, zero, suc, _+_, _-_, _≤_, _<_}
 use native.Mathlib.Decide.{ℕ-discrete}
 use native.Mathlib.Omega.{arith}
-use lib.ListN.{length, getD}
 use lib.Dec.{eqb}
 use borrow.Author.Tests.{eq-eqb, ne-eqb, eqb-true}
 use Rattle.sequences.specs.Ranges.{range, length-range, range-at}
-use Rattle.orbits.specs.Members.{In, Ordered, in-first}
+use Rattle.orbits.specs.Members.{In, Ordered}
 use Rattle.grid.specs.Listing.{keep}
 use Rattle.grid.specs.Keeping.{keep-yes, keep-no, in-keep, keep-in, ordered-keep}
 

@@ -1,5 +1,5 @@
 -- The top row of a block: of a block's pixels only those of its top row can have a north side that is an edge.
-use mathlib.Core.Path.{_≡_, refl, sym, ap, ap₂, _∙_, subst}
+use mathlib.Core.Path.{_≡_, refl, sym, ap, _∙_, subst}
 use mathlib.Core.Logic.{_≢_, _⊎_, inl, inr}
 use mathlib.Core.List.{List, [], _∷_}
 use Prim.Native.Nat.{ℕ, zero, suc, _+_, _-_, _%_, _^_, _≤_, _<_}
@@ -8,13 +8,13 @@ use native.Mathlib.Omega.{arith}
 use lib.ListN.{length, take, getD}
 use Rattle.sequences.specs.Powers.{pow2-pos}
 use Rattle.location.specs.Codes.{code, column, row}
-use Rattle.location.specs.Interleaving.{code-grows-in-x, code-below, column-below, row-below, code-of-coordinates}
+use Rattle.location.specs.Interleaving.{code-grows-in-x, column-below, row-below, code-of-coordinates}
 use Rattle.location.specs.Squares.{square-in-image, block-is-square}
 use Rattle.quadtree.specs.Blocks.{Block, pixels, paint}
 use Rattle.quadtree.specs.Number.{cover}
 use Rattle.staircase.specs.FirstBlocks.{Placed}
 use Rattle.components.specs.Holders.{blockAt, HoldsAt, held-colour, placed, pixels-with, held-in-image}
-use Rattle.orbits.specs.Members.{In, Ordered, in-first, in-later, in-cases, in-none, ordered-cons}
+use Rattle.orbits.specs.Members.{In, Ordered, in-later, in-cases, in-none, ordered-cons}
 use Rattle.grid.specs.Map.{regionAt}
 use Rattle.grid.specs.Margins.{region-inside}
 use Rattle.grid.specs.Steps.{Edge}

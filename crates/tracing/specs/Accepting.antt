@@ -1,10 +1,10 @@
 -- An accepted tracing: the numbering of the regions, then the listing of their outlines, give what the tracing promises.
-use mathlib.Core.Path.{_≡_, refl, sym, ap, ap₂, _∙_, subst}
+use mathlib.Core.Path.{_≡_, sym, ap, _∙_, subst}
 use mathlib.Core.List.{List}
-use Prim.Native.Nat.{ℕ, _*_, _^_, _≤_, _<_}
+use Prim.Native.Nat.{ℕ, _*_, _^_, _≤_}
 use native.Mathlib.Omega.{arith}
 use lib.ListN.{length, getD, replicate, length-replicate, getD-replicate}
-use Rattle.sequences.specs.Cases.{ifAccepted, written-accepted}
+use Rattle.sequences.specs.Cases.{written-accepted}
 use Rattle.sequences.specs.Over.{over, length-over, over-inside}
 use Rattle.sequences.specs.Powers.{pow4-mono}
 use Rattle.quadtree.specs.Blocks.{blocks, paint}
@@ -12,7 +12,7 @@ use Rattle.quadtree.specs.Number.{number}
 use Rattle.quadtree.specs.Accepted.{number-zero}
 use Rattle.components.specs.Numbers.{numbers, labels, regions}
 use Rattle.components.specs.Numbered.{number-below-regions}
-use Rattle.regions.specs.Promise.{Numbering, numberingNumber, labelsWritten, zerosWritten, regionsCounted, countIfAccepted, count-accepted, none}
+use Rattle.regions.specs.Promise.{Numbering, numberingNumber, labelsWritten, zerosWritten, regionsCounted, count-accepted, none}
 use Rattle.regions.specs.declared.Numbered.{Numbered}
 use Rattle.grid.specs.Listing.{Cycle, listing, owners, ends, allCorners, cycleCount, cornerCount}
 use Rattle.grid.specs.Bounds.{cycles-fit, corner-count-fits}
@@ -22,7 +22,6 @@ use Rattle.links.specs.Relabelled.{labels-room, relabelled, relabelled-paints, 
 use Rattle.tracing.specs.Outlining.{OutlinesAsked, OutlinesTold}
 use Rattle.tracing.specs.Tracing.{Lent, lent, tracingNumber, outlinesOf, cyclesWritten, labelsLeft, zerosLeft, regionsListed, Tracing, Needs, needs-met}
 use Rattle.tracing.specs.declared.listing.Counts.{Counts}
-use Rattle.tracing.specs.declared.Traced.{Traced}
 
 module _ (n : ℕ) (cs ls ks : List ℕ) (b : Lent) {k : ℕ} (asked : k ≡ tracingNumber n cs ls ks b) (zero-number : k ≡ 0) where
   number-is : tracingNumber n cs ls ks b ≡ 0

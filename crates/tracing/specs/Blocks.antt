@@ -1,11 +1,11 @@
 -- One block of the listing: its top row as the code finds it from the block's code and level.
-use mathlib.Core.Path.{_≡_, sym, ap, _∙_, subst}
+use mathlib.Core.Path.{_≡_, _∙_}
 use mathlib.Core.List.{List}
-use Prim.Native.Nat.{ℕ, _+_, _%_, _^_, _≤_, _<_}
+use Prim.Native.Nat.{ℕ, _%_, _^_, _≤_, _<_}
 use native.Mathlib.Omega.{arith}
-use Rattle.sequences.specs.Powers.{pow2-pos, pow2-mono, pow4-mono}
+use Rattle.sequences.specs.Powers.{pow2-mono}
 use Rattle.location.specs.Codes.{column, row}
-use Rattle.location.specs.Interleaving.{column-below, row-below}
+use Rattle.location.specs.Interleaving.{row-below}
 use Rattle.location.specs.Levels.{sideOf, side-is-power}
 use Rattle.location.specs.Splitting.{column-wider, row-wider}
 use Rattle.location.specs.Squares.{square-in-image}

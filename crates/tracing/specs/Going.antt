@@ -1,10 +1,9 @@
 -- The blocks of a labelled list while their cycles are listed: their links stand in the work list, and one region's chain of blocks
 -- is gone through from its first block on.
 use mathlib.Core.Path.{_≡_, refl, sym, ap, ap₂, _∙_, subst}
-use mathlib.Core.Logic.{_≢_}
-use mathlib.Core.Bool.{Bool, true, false, cond}
-use mathlib.Core.List.{List, [], _∷_, _++_, append-assoc, append-nil}
-use Prim.Native.Nat.{ℕ, zero, suc, _+_, _-_, _%_, _^_, _≤_, _<_}
+use mathlib.Core.Bool.{cond}
+use mathlib.Core.List.{List, [], _++_, append-assoc, append-nil}
+use Prim.Native.Nat.{ℕ, suc, _+_, _-_, _%_, _^_, _≤_, _<_}
 use native.Mathlib.Decide.{ℕ-discrete}
 use native.Mathlib.Numerals.{add-one}
 use native.Mathlib.Omega.{arith}
@@ -15,13 +14,12 @@ use Rattle.sequences.specs.Powers.{pow4-mono}
 use Rattle.quadtree.specs.Blocks.{Block, blocks, paint}
 use Rattle.components.specs.Holders.{blockAt}
 use Rattle.links.specs.TopRows.{topRow, block-level, block-inside, block-multiple}
-use Rattle.links.specs.Links.{firstFrom, first-here, first-end, first-same, Next, next-some, next-none}
+use Rattle.links.specs.Links.{firstFrom, first-here, first-same, Next, next-some, next-none}
 use Rattle.links.specs.Linking.{labelAt}
 use Rattle.links.specs.Candidates.{colourAt, rowsFrom}
 use Rattle.links.specs.Ahead.{Ahead}
 use Rattle.links.specs.Forward.{Labelled, rows-next, rows-none}
 use Rattle.links.specs.Relabelled.{length-as, code-as, level-as, colour-as}
-use Rattle.tracing.specs.Mapped.{numsOf}
 use Rattle.tracing.specs.Progress.{State, Room, Listed, Asked, Told, told-none, asked-first, asked-after, told-then, listed-self, room-after}
 use Rattle.tracing.specs.Blocks.{topOf, BlockAsked}
 

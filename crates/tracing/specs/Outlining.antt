@@ -1,11 +1,11 @@
 -- From the labels of the blocks to all outlines: the chains, the map, the listing, and the work list cleared.
-use mathlib.Core.Path.{_≡_, refl, sym, ap, _∙_, subst}
-use mathlib.Core.Logic.{inl, inr}
+use mathlib.Core.Path.{_≡_, refl, sym, ap, _∙_}
+use mathlib.Core.Logic.{inr}
 use mathlib.Core.List.{List, [], _∷_}
-use Prim.Native.Nat.{ℕ, zero, _+_, _-_, _*_, _^_, _≤_, _<_}
+use Prim.Native.Nat.{ℕ, _+_, _-_, _*_, _^_, _≤_, _<_}
 use native.Mathlib.Decide.{decLt}
 use native.Mathlib.Omega.{arith}
-use lib.ListN.{length, take, getD, replicate, length-replicate, getD-replicate}
+use lib.ListN.{length, getD, replicate, length-replicate, getD-replicate}
 use lib.Seq.{ext-getD}
 use Rattle.sequences.specs.Over.{over, over-none, length-over, over-inside, over-beyond}
 use Rattle.sequences.specs.Powers.{pow4-pos, pow4-mono}
@@ -14,17 +14,15 @@ use Rattle.quadtree.specs.Blocks.{Block, blocks, pixels, paint}
 use Rattle.quadtree.specs.Raster.{inRows}
 use Rattle.staircase.specs.FirstBlocks.{all-pixels}
 use Rattle.blocks.specs.Filling.{RunFilled}
-use Rattle.components.specs.Holders.{blockAt}
 use Rattle.grid.specs.Listing.{Cycle, listing, owners, ends, allCorners, cycleCount, cornerCount}
-use Rattle.grid.specs.Bounds.{cycles-fit, corner-count-fits}
 use Rattle.links.specs.Linking.{Linkable, Linked}
-use Rattle.links.specs.Ahead.{allStarts, marks-none}
-use Rattle.links.specs.FirstCycles.{firstCycles, first-none, length-first}
+use Rattle.links.specs.Ahead.{marks-none}
+use Rattle.links.specs.FirstCycles.{firstCycles, length-first}
 use Rattle.links.specs.Forward.{Labelled}
 use Rattle.links.specs.Relabelled.{length-as, colour-as}
-use Rattle.tracing.specs.Mapped.{numsOf, Mapped, Marked}
+use Rattle.tracing.specs.Mapped.{Marked}
 use Rattle.tracing.specs.Filling.{raised, Fillable, MapFilled, map-filled}
-use Rattle.tracing.specs.Progress.{State, state, Room, Listed}
+use Rattle.tracing.specs.Progress.{state}
 use Rattle.tracing.specs.Going.{Going}
 use Rattle.tracing.specs.Regions.{AllTold}
 use Rattle.tracing.specs.declared.listing.Counts.{Counts}

@@ -1,13 +1,13 @@
 -- The pass over all blocks: the cycles of each region are listed at the region's first block.
-use mathlib.Core.Path.{_≡_, refl, sym, ap, _∙_, subst}
+use mathlib.Core.Path.{_≡_, sym, ap, _∙_, subst}
 use mathlib.Core.Logic.{_≢_}
-use mathlib.Core.List.{List, []}
+use mathlib.Core.List.{List}
 use Prim.Native.Nat.{ℕ, _+_, _^_, _≤_, _<_}
 use native.Mathlib.Omega.{arith}
 use lib.ListN.{length, getD}
 use Rattle.sequences.specs.Powers.{pow4-mono}
 use Rattle.location.specs.Levels.{pixelsOf, pixels-are-power}
-use Rattle.quadtree.specs.Blocks.{Block, blocks, paint}
+use Rattle.quadtree.specs.Blocks.{blocks, paint}
 use Rattle.components.specs.Holders.{blockAt}
 use Rattle.grid.specs.Cycles.{isStart}
 use Rattle.grid.specs.Listing.{keep, listing}
@@ -15,7 +15,6 @@ use Rattle.links.specs.Candidates.{rowsFrom}
 use Rattle.links.specs.Ahead.{Ahead}
 use Rattle.links.specs.FirstCycles.{firstCycles}
 use Rattle.links.specs.Forward.{Forward, forward-begin, forward-skip, forward-chain, forward-listed, forward-end}
-use Rattle.tracing.specs.Mapped.{numsOf}
 use Rattle.tracing.specs.Progress.{State, state, Listed, Told, listed-then}
 use Rattle.tracing.specs.Going.{Going, going-after, asked-of, blocks-long, colour-is, ChainAsked, chainOf}
 

@@ -1,5 +1,5 @@
 -- The loop along the top row of one block: what holds at its head.
-use mathlib.Core.Path.{_≡_, refl, sym, ap, _∙_, subst}
+use mathlib.Core.Path.{_≡_, sym, ap, _∙_, subst}
 use mathlib.Core.List.{List, [], _∷_, _++_}
 use Prim.Native.Nat.{ℕ, zero, suc, _+_, _-_, _^_, _≤_, _<_}
 use native.Mathlib.Numerals.{add-one}
@@ -7,7 +7,7 @@ use native.Mathlib.Omega.{arith}
 use Rattle.sequences.specs.Powers.{pow2-mono}
 use Rattle.location.specs.Codes.{code}
 use Rattle.links.specs.TopRows.{rowFrom}
-use Rattle.tracing.specs.Progress.{State, Room, Asked, Told, told-none, asked-first, asked-after, told-then}
+use Rattle.tracing.specs.Progress.{State, Asked, Told, told-none, asked-first, asked-after, told-then}
 use Rattle.tracing.specs.Turn.{PixelAsked}
 
 -- The k pixels of the row y from the column x on come next.

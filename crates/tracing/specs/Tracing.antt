@@ -1,5 +1,5 @@
 -- What the tracing promises: the answer, and the later content of each lent list, whether it accepts or refuses.
-use mathlib.Core.Path.{_≡_, refl, sym, ap, ap₂, _∙_, subst}
+use mathlib.Core.Path.{_≡_, refl, sym, ap, _∙_}
 use mathlib.Core.Bool.{Bool, true, false, _||_}
 use mathlib.Core.List.{List, []}
 use Prim.Native.Nat.{ℕ, zero, suc, _*_, _^_, _≤_, _<_}
@@ -8,7 +8,7 @@ use native.Mathlib.Omega.{arith}
 use lib.ListN.{length, replicate}
 use lib.Dec.{ltb}
 use borrow.Author.Tests.{lt-ltb, le-ltb}
-use Rattle.sequences.specs.Cases.{first, when, ifAccepted, first-some, first-none, first-zero, when-yes, when-no, when-zero, written-refused}
+use Rattle.sequences.specs.Cases.{when, ifAccepted, first-some, first-none, when-yes, when-no, written-refused}
 use Rattle.sequences.specs.Over.{over, over-none}
 use Rattle.sequences.specs.Powers.{pow4-mono}
 use Rattle.location.specs.Levels.{pixelsOf, pixels-are-power}

@@ -1,9 +1,9 @@
 -- One pixel of the listing: where its north side is an edge without a mark a cycle is written, else nothing.
 use mathlib.Core.Path.{_≡_, refl, sym, ap, _∙_, subst}
-use mathlib.Core.Logic.{_⊎_, inl, inr}
+use mathlib.Core.Logic.{inl, inr}
 use mathlib.Core.Bool.{Bool, true, false}
 use mathlib.Core.List.{List, [], _∷_, _++_}
-use Prim.Native.Nat.{ℕ, suc, _+_, _-_, _*_, _^_, _≤_, _<_}
+use Prim.Native.Nat.{ℕ, _+_, _-_, _*_, _^_, _≤_, _<_}
 use native.Mathlib.Omega.{arith}
 use lib.ListN.{length, take, drop, getD, set, length-drop}
 use Rattle.sequences.specs.Over.{over, over-push}
@@ -17,10 +17,10 @@ use Rattle.grid.specs.Keeping.{keep-yes, keep-no}
 use Rattle.grid.specs.Starting.{StartAt, start-says, says-start}
 use Rattle.links.specs.Ahead.{allStarts, Ahead, MarksOf, marks-more, start-unmarked, unmarked-starts, here-inside}
 use Rattle.links.specs.FirstCycles.{firstCycles, starts-few, length-first-owners, length-first-ends, corners-room, some-left, first-starts-more, owners-more, ends-more, corners-more, count-more}
-use Rattle.tracing.specs.Mapped.{numsOf, Mapped, Marked}
+use Rattle.tracing.specs.Mapped.{numsOf, Marked}
 use Rattle.tracing.specs.Promise.{StartsHere, CycleWritten}
-use Rattle.tracing.specs.Unmarked.{PixelOf, Unmarked, NorthEdge, Tells}
-use Rattle.tracing.specs.Progress.{State, state, Room, Listed, Asked, Told}
+use Rattle.tracing.specs.Unmarked.{PixelOf, Unmarked, Tells}
+use Rattle.tracing.specs.Progress.{State, state, Listed, Asked, Told}
 use borrow.Rule.Slice.PartMut.{midOf, putMid}
 
 -- The pixel (x, y) of the image comes next.

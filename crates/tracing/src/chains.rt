@@ -1,5 +1,4 @@
 // The blocks of each region as a chain: linked in list order.
-ghost use mathlib.Core.Path.{_≡_};
 ghost use Rattle.links.specs.Linking.{Linkable, Linked};
 
 // Writes at whole + j of the work list 1 plus the next of the `count` blocks with the label of block j, 0 where there is none. The first

@@ -1,6 +1,5 @@
 // The cycles listed, region after region, along the top rows of each region's blocks.
 use crate::cycle::write_cycle;
-ghost use mathlib.Core.Path.{_≡_};
 ghost use mathlib.Core.List.{_∷_, []};
 ghost use Rattle.location.specs.Codes.{code};
 ghost use Rattle.tracing.specs.Unmarked.{PixelOf, Tells};

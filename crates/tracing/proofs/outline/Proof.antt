@@ -4,13 +4,6 @@ use native.Mathlib.Omega.{arith}
 use borrow.Author.Needs.{needs}
 use Rattle.tracing.proofs.outline.Statement.{statement}
 use Rattle.tracing.proofs.outline.Tie as tie
-use Rattle.tracing.proofs.outline.Reads as reads
-use Rattle.tracing.proofs.outline.Lts as lts
-use Rattle.location.proofs.pixels.Reads as pixels-reads
-use Rattle.tracing.proofs.chains.link.Reads as link-reads
-use Rattle.tracing.proofs.listing.list_all.Reads as list-all-reads
-use Rattle.tracing.proofs.map.fill_map.Reads as fill-map-reads
-use Rattle.tracing.proofs.map.fill_run.Reads as fill-run-reads
 
 pixels-requires : tie.Need-pixels-requires
 pixels-requires c κs = search needs

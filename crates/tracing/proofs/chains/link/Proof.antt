@@ -2,16 +2,11 @@
 -- The measure is j.
 use Rattle.links.specs.Linking.{Linking, begin, label-known, room, again, finish}
 use lib.ListN.{length-set}
-use mathlib.Core.Path.{_≡_, refl, sym, ap, _∙_}
-use mathlib.Core.Logic.{⊎-elim}
-use Prim.Native.Nat.{ℕ, _≤_, _<_, _-_, _+_}
+use Prim.Native.Nat.{_-_}
 use native.Mathlib.Omega.{arith}
-use lib.ListN.{length, take, drop, getD, set}
 use borrow.Author.Needs.{needs}
 use Rattle.tracing.proofs.chains.link.Statement.{statement}
 use Rattle.tracing.proofs.chains.link.Tie as tie
-use Rattle.tracing.proofs.chains.link.Reads as reads
-use Rattle.tracing.proofs.chains.link.Lts as lts
 
 abbrev Inv-loop : tie.InvT-loop
 Inv-loop whole count labels work₀ j₀ work j =

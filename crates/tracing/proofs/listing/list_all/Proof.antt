@@ -3,18 +3,12 @@ use Rattle.tracing.specs.Going.{blocks-few}
 -- of the list.
 use Rattle.tracing.specs.Progress.{state, same-owners, same-ends, same-corners}
 use Rattle.tracing.specs.Regions.{ForwardTo, begin, place-asked, again, finish}
-use mathlib.Core.Path.{_≡_, refl, sym, ap, _∙_}
-use mathlib.Core.Logic.{⊎-elim}
-use Prim.Native.Nat.{ℕ, _≤_, _<_, _-_, _+_}
+use Prim.Native.Nat.{_-_}
 use native.Mathlib.Omega.{arith}
-use lib.ListN.{length, take, drop, getD, set}
+use lib.ListN.{length}
 use borrow.Author.Needs.{needs}
 use Rattle.tracing.proofs.listing.list_all.Statement.{statement}
 use Rattle.tracing.proofs.listing.list_all.Tie as tie
-use Rattle.tracing.proofs.listing.list_all.Reads as reads
-use Rattle.tracing.proofs.listing.list_all.Lts as lts
-use Rattle.location.proofs.pixels.Reads as pixels-reads
-use Rattle.tracing.proofs.listing.list_next.Reads as list-next-reads
 
 abbrev Inv-loop : tie.InvT-loop
 Inv-loop n codes levels labels work₀ owners₀ ends₀ corners₀ whole regions₀ count₀ used₀ i₀ work owners ends corners regions count used i =

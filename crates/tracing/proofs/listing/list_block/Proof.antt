@@ -4,12 +4,6 @@ use native.Mathlib.Omega.{arith}
 use borrow.Author.Needs.{needs}
 use Rattle.tracing.proofs.listing.list_block.Statement.{statement}
 use Rattle.tracing.proofs.listing.list_block.Tie as tie
-use Rattle.tracing.proofs.listing.list_block.Reads as reads
-use Rattle.tracing.proofs.listing.list_block.Lts as lts
-use Rattle.location.proofs.column.Reads as column-reads
-use Rattle.location.proofs.row.Reads as row-reads
-use Rattle.location.proofs.side.Reads as side-reads
-use Rattle.tracing.proofs.listing.list_row.Reads as list-row-reads
 
 column-requires : tie.Need-column-requires
 column-requires c κs = search needs

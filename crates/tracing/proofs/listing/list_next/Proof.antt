@@ -5,9 +5,6 @@ use native.Mathlib.Omega.{arith}
 use borrow.Author.Needs.{needs}
 use Rattle.tracing.proofs.listing.list_next.Statement.{statement}
 use Rattle.tracing.proofs.listing.list_next.Tie as tie
-use Rattle.tracing.proofs.listing.list_next.Reads as reads
-use Rattle.tracing.proofs.listing.list_next.Lts as lts
-use Rattle.tracing.proofs.listing.list_region.Reads as list-region-reads
 
 mul-if1 : tie.Need-mul-if1
 mul-if1 c = search needs

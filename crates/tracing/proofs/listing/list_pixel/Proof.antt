@@ -5,10 +5,6 @@ use Rattle.tracing.specs.Turn.{pixel-of, silent, cycles-below, owners-be
 use borrow.Author.Needs.{needs}
 use Rattle.tracing.proofs.listing.list_pixel.Statement.{statement}
 use Rattle.tracing.proofs.listing.list_pixel.Tie as tie
-use Rattle.tracing.proofs.listing.list_pixel.Reads as reads
-use Rattle.tracing.proofs.listing.list_pixel.Lts as lts
-use Rattle.tracing.proofs.cycle.write_cycle.Reads as write-cycle-reads
-use Rattle.tracing.proofs.listing.unmarked.Reads as unmarked-reads
 
 unmarked-requires : tie.Need-unmarked-requires
 unmarked-requires c κs = pixel-of (c .before .before .before .before .before .pre)

@@ -2,17 +2,12 @@
 -- come next; the link of a block leads to the next one. The measure is what is left of the list.
 use Rattle.tracing.specs.Progress.{state, same-owners, same-ends, same-corners}
 use Rattle.tracing.specs.Going.{ChainAsked, ChainTo, chainLeft, few-blocks, chain-begin, place-now, chain-block, link-room, whole-small, chain-again, chain-less, chain-finish}
-use mathlib.Core.Path.{_≡_, refl, sym, ap, _∙_}
-use mathlib.Core.Logic.{⊎-elim}
-use Prim.Native.Nat.{ℕ, _≤_, _<_, _-_, _+_}
+use mathlib.Core.Path.{refl}
+use Prim.Native.Nat.{_-_, _+_}
 use native.Mathlib.Omega.{arith}
-use lib.ListN.{length, take, drop, getD, set}
 use borrow.Author.Needs.{needs}
 use Rattle.tracing.proofs.listing.list_region.Statement.{statement}
 use Rattle.tracing.proofs.listing.list_region.Tie as tie
-use Rattle.tracing.proofs.listing.list_region.Reads as reads
-use Rattle.tracing.proofs.listing.list_region.Lts as lts
-use Rattle.tracing.proofs.listing.list_block.Reads as list-block-reads
 
 abbrev Inv-loop : tie.InvT-loop
 Inv-loop n codes levels whole first work₀ owners₀ ends₀ corners₀ cycles at count₀ used₀ next₀ work owners ends corners count used next =

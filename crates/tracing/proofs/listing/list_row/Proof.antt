@@ -2,17 +2,10 @@
 -- The measure is what is left of the row.
 use Rattle.tracing.specs.Progress.{state, same-owners, same-ends, same-corners}
 use Rattle.tracing.specs.Rows.{RowTo, end-small, begin, pixel-asked, again, finish}
-use mathlib.Core.Path.{_≡_, refl, sym, ap, _∙_}
-use mathlib.Core.Logic.{⊎-elim}
-use Prim.Native.Nat.{ℕ, _≤_, _<_, _-_, _+_}
+use Prim.Native.Nat.{_-_, _+_}
 use native.Mathlib.Omega.{arith}
-use lib.ListN.{length, take, drop, getD, set}
-use borrow.Author.Needs.{needs}
 use Rattle.tracing.proofs.listing.list_row.Statement.{statement}
 use Rattle.tracing.proofs.listing.list_row.Tie as tie
-use Rattle.tracing.proofs.listing.list_row.Reads as reads
-use Rattle.tracing.proofs.listing.list_row.Lts as lts
-use Rattle.tracing.proofs.listing.list_pixel.Reads as list-pixel-reads
 
 abbrev Inv-loop : tie.InvT-loop
 Inv-loop n work₀ x y width owners₀ ends₀ corners₀ cycles at end count₀ used₀ i₀ work owners ends corners count used i =

@@ -4,9 +4,6 @@ use borrow.Author.Needs.{needs}
 use Rattle.tracing.specs.Unmarked.{row-fits, entry-below, entry-inside, entry-marked, entry-first-row, north-same, north-other, row-above-entry}
 use Rattle.tracing.proofs.listing.unmarked.Statement.{statement}
 use Rattle.tracing.proofs.listing.unmarked.Tie as tie
-use Rattle.tracing.proofs.listing.unmarked.Reads as reads
-use Rattle.tracing.proofs.listing.unmarked.Lts as lts
-use Rattle.location.proofs.side.Reads as side-reads
 
 side-requires : tie.Need-side-requires
 side-requires c κs = search needs
