@@ -1,6 +1,6 @@
 -- Demand 3 where a caller stands: from the promise of an accepted tracing, what the lists at exit hold.
 use mathlib.Core.Path.{_≡_, refl, sym, ap, ap₂, _∙_, subst}
-use mathlib.Core.Logic.{_≢_}
+use mathlib.Core.Logic.{_≢_, _⊎_, _↔_}
 use mathlib.Core.Bool.{true}
 use mathlib.Core.List.{List, []}
 use Prim.Native.Nat.{ℕ, suc, _*_, _^_, _≤_, _<_}
@@ -20,11 +20,15 @@ use Rattle.lattice.specs.Directions.{rightOf, digit, head}
 use Rattle.lattice.specs.Walks.{outline, corners}
 use Rattle.lattice.specs.CycleForm.{cycleForm}
 use Rattle.orbits.specs.Members.{In, Distinct, one-place}
+use Rattle.orbits.specs.Orbits.{iter}
 use Rattle.grid.specs.Map.{regionAt}
+use Rattle.grid.specs.Margins.{Margin}
 use Rattle.grid.specs.Steps.{Edge, step}
-use Rattle.grid.specs.Cycles.{cycle}
+use Rattle.grid.specs.Cycles.{cycleFrom, cycle}
 use Rattle.grid.specs.Listing.{startCodes, Cycle, owners, ends, allCorners, pointsAt, cycleCount, cornerCount}
 use Rattle.grid.specs.Listed.{SidesOnce, OutlinesListed, listing-length, points-at, outline-at, ring-at, each-side-once, all-outlines-listed}
+use Rattle.grid.specs.Undoing.{back, step-edge}
+use Rattle.grid.specs.Returning.{edge-returns, back-edge, step-back, step-injective, cycles-equal-or-apart}
 use Rattle.grid.specs.Bounds.{cycles-fit, corner-count-fits}
 use Rattle.grid.specs.Forms.{listed-is-cycle-form}
 use Rattle.grid.specs.Outer.{OuterAt, first-is-outer, region-has-first}
@@ -49,6 +53,16 @@ numbersOf n cs ls ks = numbers n (paint (blocks cs ls ks))
 abbrev pub startsOf : ℕ → List ℕ → List ℕ → List ℕ → List ℕ
 startsOf n cs ls ks = startCodes n (numbers n (paint (blocks cs ls ks))) (regions n (paint (blocks cs ls ks)))
 
+-- The rule of steps on the edges of the region that the map m has as r: a bijection, every edge comes again, and two cycles are equal or
+-- have no edge in common.
+pub record RuleOfSteps (m : ℕ → ℕ → ℕ) (r : ℕ) : Type 0 where
+  pub stays : (e : ℕ) → Edge m r e → Edge m r (step m e)
+  pub one-before : (a b : ℕ) → Edge m r a → Edge m r b → step m a ≡ step m b → a ≡ b
+  pub some-before : (e : ℕ) → Edge m r e → (a : ℕ) × Edge m r a × (step m a ≡ e)
+  pub comes-again : (e : ℕ) → Edge m r e → (k : ℕ) × (0 < k) × (iter (step m) k e ≡ e)
+  pub equal-or-apart : (a b : ℕ) → Edge m r a → Edge m r b
+      → ((c : ℕ) → In c (cycleFrom m a) ↔ In c (cycleFrom m b)) ⊎ ((c : ℕ) → In c (cycleFrom m a) → In c (cycleFrom m b) → ⊥)
+
 pub record AtExit (n : ℕ) (cs ls ks : List ℕ) (before after : Lent) (r : Traced) : Type 0 where
   -- "exactly the counts of regions, cycles and corners"
   pub region-count : r .regions ≡ regions n (paint (blocks cs ls ks))
@@ -62,6 +76,8 @@ pub record AtExit (n : ℕ) (cs ls ks : List ℕ) (before after : Lent) (r : Tra
   pub numbers-by-labels : tabulate (4 ^ n) (labelOfPixel (blocks cs ls ks) (after .labelList)) ≡ numbersOf n cs ls ks
   -- the lists hold the listing: owners, ends and corners as defined
   pub lists : heldAt after r ≡ outlinesOf n cs ls ks
+  -- the rule of steps in each region
+  pub rule : (v : ℕ) → RuleOfSteps (regionAt n (numbersOf n cs ls ks)) (suc v)
   -- all closed outlines of the rule of steps, each once, in the fixed order
   pub outlines : OutlinesListed n (numbersOf n cs ls ks) (heldAt after r) (startsOf n cs ls ks)
   -- each side between a region and what is not that region in exactly one of its outlines, once, and nothing else
@@ -262,6 +278,18 @@ module _ {n : ℕ} {cs ls ks : List ℕ} {before after : Lent} {r : Traced} (p :
     zeros-long : length {A = ℕ} (replicate (2 * 4 ^ n) 0) ≡ 2 * 4 ^ n
     zeros-long = length-replicate (2 * 4 ^ n) 0
 
+    rule-of-steps : (v : ℕ) → RuleOfSteps (regionAt n (numbersOf n cs ls ks)) (suc v)
+    rule-of-steps v =
+        let m : ℕ → ℕ → ℕ = regionAt n (numbersOf n cs ls ks) in
+        let g : Margin m = margin n (numbersOf n cs ls ks) small in
+        record {
+          stays = λ e h. step-edge m g (suc v) e h;
+          one-before = λ a b h k e. step-injective m g (suc v) a b h k e;
+          some-before = λ e h. (back m e, back-edge m g (suc v) e h, step-back m g (suc v) e h);
+          comes-again = λ e h. let w = edge-returns m g (suc v) e h in (w .0, w .2 .positive, w .2 .back);
+          equal-or-apart = λ a b h k. cycles-equal-or-apart m g (suc v) a b h k;
+        }
+
     -- All of it.
     pub accepted-at-exit : AtExit n cs ls ks before after r
     accepted-at-exit = record {
@@ -275,6 +303,7 @@ module _ {n : ℕ} {cs ls ks : List ℕ} {before after : Lent} {r : Traced} (p :
           no-other-by-least-codes n (paint (blocks cs ls ks)) (tabulate (4 ^ n) (labelOfPixel (blocks cs ls ks) (after .labelList))) (r .regions)
           (labels-by-least-codes as-numbering refl) .0;
       lists = lists-hold-the-listing;
+      rule = rule-of-steps;
       outlines = subst (λ (c : List Cycle). OutlinesListed n (numbersOf n cs ls ks) c (startsOf n cs ls ks)) (sym lists-hold-the-listing) listed;
       sides = subst (SidesOnce (regionAt n (numbersOf n cs ls ks))) (sym lists-hold-the-listing) once;
       stretch = λ k h. stretch-is k h ∙ points-are-corners k (omega (arith, cycles-are));

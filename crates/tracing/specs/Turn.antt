@@ -30,12 +30,6 @@ pub record PixelAsked (n x y : ℕ) (s : State) : Type 0 where
   pub asked : Asked n (code n x y ∷ []) s
 
 module _ {n x y : ℕ} {s : State} (ok : PixelAsked n x y s) where
-  nums : List ℕ
-  nums = numsOf n (s .work)
-
-  c : ℕ
-  c = code n x y
-
   small : n ≤ 8
   small = ok .asked .room .small
 

@@ -42,9 +42,6 @@ abbrev pub Tells : ℕ → List ℕ → ℕ → ℕ → Type 0
 Tells n map c r = Unmarked n map c r ⊎ ((r ≡ 0) × (NorthEdge n (numsOf n map) c → ¬ Marked n map c → ⊥))
 
 module _ {n : ℕ} {map : List ℕ} {x y : ℕ} (ok : PixelOf n map x y) where
-  nums : List ℕ
-  nums = numsOf n map
-
   pub place-below : y * 2 ^ n + x < 4 ^ n
   place-below = omega (arith, digits-lt (ok .y-inside) (ok .x-inside), square-of-side n)
 
