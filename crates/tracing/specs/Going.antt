@@ -62,6 +62,9 @@ module _ {n : ℕ} {codes levels labels : List ℕ} where
     pub blocks-long : length (blocks codes levels labels) ≡ length codes
     blocks-long = length-as codes levels labels (g .equal) (g .enough)
 
+    pub blocks-few : length codes ≤ 65536
+    blocks-few = let w : 4 ^ n ≤ 4 ^ 8 = pow4-mono (g .room .small) in omega (arith, g .few)
+
     pub colour-is : (i : ℕ) → i < length codes → blockAt (blocks codes levels labels) i .colour ≡ getD labels i 0
     colour-is i h = colour-as codes levels labels (g .equal) (g .enough) i h
 

@@ -14,3 +14,7 @@ pub mod Turn
 pub mod Rows
 pub mod Blocks
 pub mod Going
+pub mod Regions
+pub mod Outlining
+pub mod Tracing
+pub mod Accepting

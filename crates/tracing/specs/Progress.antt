@@ -86,7 +86,7 @@ module _ {n : ℕ} {nums : List ℕ} {s₀ s : State} (room : Room n s₀) (l : 
 -- ---- one stretch after the other
 
 module _ {n : ℕ} {nums : List ℕ} where
-  listed-then : {s₀ s₁ s₂ : State} → Listed n nums s₀ s₁ → Listed n nums s₁ s₂ → s₁ .cycles ≤ s₂ .cycles → Listed n nums s₀ s₂
+  pub listed-then : {s₀ s₁ s₂ : State} → Listed n nums s₀ s₁ → Listed n nums s₁ s₂ → s₁ .cycles ≤ s₂ .cycles → Listed n nums s₀ s₂
   unfolding cornerCount
   listed-then {s₀} {s₁} {s₂} a b h = record {
     few = b .few;

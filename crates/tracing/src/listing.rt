@@ -9,6 +9,8 @@ ghost use Rattle.links.specs.TopRows.{rowFrom};
 ghost use Rattle.tracing.specs.Turn.{PixelAsked};
 ghost use Rattle.tracing.specs.Rows.{RowAsked};
 ghost use Rattle.tracing.specs.Blocks.{topOf, BlockAsked};
+ghost use Rattle.tracing.specs.Going.{Going, ChainAsked, chainOf};
+ghost use Rattle.tracing.specs.Regions.{PlaceAsked, PlaceTold, AllTold};
 
 // How many cycles and how many corners are written.
 pub(crate) struct Counts {
@@ -110,4 +112,98 @@ fn list_block(
     let y = location::row(code) as u32;
     let width = location::side(level as u32) as u32;
     list_row(n, work, x, y, width, owners, ends, corners, cycles, at)
+}
+
+// Lists the cycles of one region: along its chain of blocks from the block `first` on. The link of block j stands at whole + j in the work list.
+fn list_region(
+    n: u32,
+    codes: &[u32],
+    levels: &[u8],
+    whole: usize,
+    first: usize,
+    work: &mut [u32],
+    owners: &mut [u32],
+    ends: &mut [u32],
+    corners: &mut [u32],
+    cycles: usize,
+    at: usize,
+) -> Counts
+    requires { ⌜ ChainAsked n (now codes) (now levels) whole first (state (now work) (now owners) (now ends) (now corners) cycles at) ⌝ }
+    ensures { λ r. ⌜ ((p : ChainAsked n (now (codes .entry)) (now (levels .entry)) whole first (state (now (work .entry)) (now (owners .entry)) (now (ends .entry)) (now (corners .entry)) cycles at)) → Told n (chainOf p) (state (now (work .entry)) (now (owners .entry)) (now (ends .entry)) (now (corners .entry)) cycles at) (state (now (work .exit)) (now (owners .exit)) (now (ends .exit)) (now (corners .exit)) (r .cycles) (r .corners))) ⌝ }
+{
+    let mut count = cycles;
+    let mut used = at;
+    let mut next = first + 1;
+    while next != 0 {
+        let j = next - 1;
+        let now = list_block(n, codes[j], levels[j], work, owners, ends, corners, count, used);
+        count = now.cycles;
+        used = now.corners;
+        next = work[whole + j] as usize;
+    }
+    Counts { cycles: count, corners: used }
+}
+
+// What the pass over the blocks has reached: how many regions, cycles and corners are listed.
+struct Reached {
+    pub regions: u32,
+    pub cycles: usize,
+    pub corners: usize,
+}
+
+// Lists the cycles of the region of block i, where it is the next one not listed yet: then i is its first block.
+fn list_next(
+    n: u32,
+    codes: &[u32],
+    levels: &[u8],
+    labels: &[u32],
+    whole: usize,
+    i: usize,
+    regions: u32,
+    work: &mut [u32],
+    owners: &mut [u32],
+    ends: &mut [u32],
+    corners: &mut [u32],
+    cycles: usize,
+    at: usize,
+) -> Reached
+    requires { ⌜ PlaceAsked n (now codes) (now levels) (now labels) whole i regions (state (now work) (now owners) (now ends) (now corners) cycles at) ⌝ }
+    ensures { λ r. ⌜ PlaceTold n (now (codes .entry)) (now (levels .entry)) (now (labels .entry)) i (r .regions) (state (now (work .entry)) (now (owners .entry)) (now (ends .entry)) (now (corners .entry)) cycles at) (state (now (work .exit)) (now (owners .exit)) (now (ends .exit)) (now (corners .exit)) (r .cycles) (r .corners)) ⌝ }
+{
+    if labels[i] != regions {
+        return Reached { regions: regions, cycles: cycles, corners: at };
+    }
+    let now = list_region(n, codes, levels, whole, i, work, owners, ends, corners, cycles, at);
+    Reached { regions: regions + 1, cycles: now.cycles, corners: now.corners }
+}
+
+// Lists all cycles of a labelled list of blocks, whose map and links stand in the work list.
+pub(crate) fn list_all(
+    n: u32,
+    codes: &[u32],
+    levels: &[u8],
+    labels: &[u32],
+    work: &mut [u32],
+    owners: &mut [u32],
+    ends: &mut [u32],
+    corners: &mut [u32],
+) -> Counts
+    requires { ⌜ Going n (now codes) (now levels) (now labels) (state (now work) (now owners) (now ends) (now corners) 0 0) ⌝ }
+    ensures { λ r. ⌜ AllTold n (now (codes .entry)) (now (levels .entry)) (now (labels .entry)) (state (now (work .entry)) (now (owners .entry)) (now (ends .entry)) (now (corners .entry)) 0 0) (state (now (work .exit)) (now (owners .exit)) (now (ends .exit)) (now (corners .exit)) (r .cycles) (r .corners)) ⌝ }
+{
+    let whole = location::pixels(n);
+    let mut regions: u32 = 0;
+    let mut count: usize = 0;
+    let mut used: usize = 0;
+    let mut i: usize = 0;
+    while i < codes.len() {
+        let now = list_next(
+            n, codes, levels, labels, whole, i, regions, work, owners, ends, corners, count, used,
+        );
+        regions = now.regions;
+        count = now.cycles;
+        used = now.corners;
+        i += 1;
+    }
+    Counts { cycles: count, corners: used }
 }
