@@ -75,7 +75,7 @@ pub record AlongY (p q : ℕ) : Type 0 where
   pub same-column : xOf p ≡ xOf q
   pub moves : yOf p ≢ yOf q
 
--- The steps at 0, 2, .. go along x and those at 1, 3, .. along y; so does the closing one, which is the last of an even number.
+-- The steps at 0, 2, .. go along x and those at 1, 3, .. along y; the closing one, the last of an even number, is among the latter.
 pub record CycleForm (cs : List ℕ) : Type 0 where
   pub even-number : length cs % 2 ≡ 0
   pub at-least-four : 4 ≤ length cs

@@ -14,6 +14,16 @@ pub struct Numbered {
     pub regions: u32,
 }
 
+// The answer of a refusal.
+fn refused(number: u32) -> Numbered
+    ensures { λ r. ⌜ r ≡ record { number = number; regions = 0 } ⌝ }
+{
+    Numbered {
+        number: number,
+        regions: 0,
+    }
+}
+
 // Numbers the regions of an accepted list: in the label list, one entry a block, first parents, then numbers.
 fn label(
     n: u32,
@@ -46,23 +56,14 @@ pub fn number(
 {
     let fault = blocks::check(n, codes, levels, colours);
     if fault != 0 {
-        return Numbered {
-            number: fault,
-            regions: 0,
-        };
+        return refused(fault);
     }
     if labels.len() < codes.len() {
-        return Numbered {
-            number: 8,
-            regions: 0,
-        };
+        return refused(8);
     }
     let need = 2 * location::pixels(n);
     if work.len() < need {
-        return Numbered {
-            number: 8,
-            regions: 0,
-        };
+        return refused(8);
     }
     let regions = label(
         n,

@@ -1,4 +1,5 @@
 -- The causes are asked in the document's order; what is left is an accepted list with room for its labels and for the border.
+use lib.ListN.{length}
 use lib.Seq.{length-take-le}
 use Rattle.quadtree.specs.Number.{number}
 use Prim.Native.Nat.{_≤_, _*_, _^_}
@@ -23,11 +24,18 @@ need c = need-is _ _ _ _ (accepted c) (c .pixels .ensures)
 check-requires : tie.Need-check-requires
 check-requires c κs = search needs
 
+refused-requires : tie.Need-refused-requires
+refused-requires c κs = search needs
+
 returns : tie.Need-returns
-returns c = list-refused _ _ _ _ _ _ (omega (arith, c .if1 .taken)) (c .before .check .ensures)
+returns c = rw (c .refused .ensures) (list-refused _ _ _ _ _ _ (omega (arith, c .before .if1 .taken)) (c .before .before .check .ensures))
+
+refused-requires-2 : tie.Need-refused-requires-2
+refused-requires-2 c κs = search needs
 
 returns-2 : tie.Need-returns-2
-returns-2 c = labels-short _ _ _ _ _ _ (sym (c .before .before .check .ensures) ∙ c .before .if1 .left) (c .if2 .taken)
+returns-2 c =
+    rw (c .refused2 .ensures) (labels-short _ _ _ _ _ _ (sym (c .before .before .before .check .ensures) ∙ c .before .before .if1 .left) (c .before .if2 .taken))
 
 pixels-requires : tie.Need-pixels-requires
 pixels-requires c κs = search needs
@@ -35,17 +43,26 @@ pixels-requires c κs = search needs
 mul-need : tie.Need-mul-need
 mul-need c = omega (arith, need c .0)
 
+refused-requires-3 : tie.Need-refused-requires-3
+refused-requires-3 c κs = search needs
+
 returns-3 : tie.Need-returns-3
-returns-3 c = work-short _ _ _ _ _ _ (accepted (c .before)) (omega (arith, c .if3 .taken, need (c .before) .1))
+returns-3 c =
+    let d = c .before .before in
+    rw (c .refused3 .ensures) (work-short _ _ _ _ _ _ (accepted d) (omega (arith, c .before .if3 .taken, need d .1)))
 
 slice-relend-prefix-label : tie.Need-slice-relend-prefix-label
 slice-relend-prefix-label c = search needs
 
 slice-aggregate-label : tie.Need-slice-aggregate-label
-slice-aggregate-label c = sym (length-take-le _ _ (c .before .before .before .if2 .left))
+slice-aggregate-label c =
+    let a = entry (c .before .before) .args in
+    omega (arith, length-take-le (length (a .codes .now)) (a .labels .now) (c .before .before .before .if2 .left))
 
 label-requires : tie.Need-label-requires
-label-requires c κs = numberable _ _ _ _ (c .before .before .before .before .before .before .before .before .before .before .before .before .args .labels .now) _ (accepted (c .before .before .before)) (c .before .before .before .before .if2 .left) (need (c .before .before .before) .1) (c .before .before .if3 .left)
+label-requires c κs =
+    let d = c .before .before .before in
+    numberable _ _ _ _ (entry d .args .labels .now) _ (accepted d) (d .before .if2 .left) (need d .1) (c .before .before .if3 .left)
 
 same-length : tie.Need-same-length
 same-length c = search needs
@@ -54,17 +71,23 @@ same-length-2 : tie.Need-same-length-2
 same-length-2 c = search needs
 
 returns-4 : tie.Need-returns-4
-returns-4 c = written _ _ _ _ _ _ (accepted (c .before .before .before .before .before .before .before .before)) (c .before .before .before .before .before .before .before .before .before .if2 .left) (omega (arith, c .before .before .before .before .before .before .before .if3 .left, need (c .before .before .before .before .before .before .before .before) .1)) (c .before .before .before .before .label .ensures)
+returns-4 c =
+    let d = c .before .before .before .before .before .before .before .before in
+    written _ _ _ _ _ _ (accepted d) (d .before .if2 .left) (omega (arith, c .before .before .before .before .before .before .before .if3 .left, need d .1))
+    (c .before .before .before .before .label .ensures)
 
 pub number-spec : {M : Type 1} → statement M
 number-spec =
     tie.close
     (tie.spec
     check-requires
+    refused-requires
     returns
+    refused-requires-2
     returns-2
     pixels-requires
     mul-need
+    refused-requires-3
     returns-3
     slice-relend-prefix-label
     slice-aggregate-label

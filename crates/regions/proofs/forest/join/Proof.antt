@@ -20,7 +20,9 @@ mul-parents c = search needs
 slice-write-parents : tie.Need-slice-write-parents
 slice-write-parents c =
     let z = c .before .before .before in
-    b-inside (z .before .before .before .before .find .ensures) (z .find2 .ensures) (z .before .before .before .before .before .before .before .pre .1)
+    let f = z .before .before .before .before .find .ensures in
+    let p = z .before .before .before .before .before .before .before .pre in
+    omega (arith, b-inside f (z .find2 .ensures) (p .1), f .long, z .find2 .ensures .long)
 
 returns : tie.Need-returns
 returns c =
@@ -40,7 +42,9 @@ mul-parents-2 c = search needs
 slice-write-parents-2 : tie.Need-slice-write-parents-2
 slice-write-parents-2 c =
     let z = c .before .before .before .before in
-    a-inside (z .before .before .before .before .find .ensures) (z .find2 .ensures) (z .before .before .before .before .before .before .before .pre .0)
+    let f = z .before .before .before .before .find .ensures in
+    let p = z .before .before .before .before .before .before .before .pre in
+    omega (arith, a-inside f (z .find2 .ensures) (p .0), f .long, z .find2 .ensures .long)
 
 returns-2 : tie.Need-returns-2
 returns-2 c =
