@@ -1,13 +1,12 @@
 -- The cycles that the owner, end and corner lists of a tracing hold.
-use mathlib.Core.Path.{_≡_, refl, sym, ap, ap₂, _∙_, subst}
-use mathlib.Core.Bool.{Bool, true, false, not, _||_}
-use mathlib.Core.List.{List, [], _∷_, _++_}
+use mathlib.Core.Path.{_≡_, refl, sym, ap, _∙_}
+use mathlib.Core.Bool.{Bool, true, not, _||_}
+use mathlib.Core.List.{List, [], _∷_}
 use Prim.Native.Nat.{ℕ, zero, suc, _+_, _-_, _≤_, _<_}
 use native.Mathlib.Omega.{arith}
 use native.Mathlib.Numerals.{add-one}
 use lib.Dec.{eqb, leb}
 use lib.ListN.{length, getD, drop, length-append}
-use lib.Seq.{drop-nil}
 use borrow.Author.Tests.{le-leb, lt-leb}
 use Rattle.sequences.specs.Over.{over, over-inside}
 use Rattle.grid.specs.Listing.{Cycle, owners, ends, allCorners, pointsAt, cornerCount}

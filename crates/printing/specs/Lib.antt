@@ -6,4 +6,6 @@ pub mod Writing
 pub mod Picturing
 pub mod Printed
 pub mod Printable
+pub mod Deciding
+pub mod Callers
 pub mod Examples

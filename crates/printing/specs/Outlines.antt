@@ -1,7 +1,7 @@
 -- The outlines of an image: their listing goes region by region, each region has a cycle, and a text of 26 times 4^n bytes holds its lines.
 use mathlib.Core.Path.{_≡_, refl, sym, ap, _∙_, subst}
 use mathlib.Core.List.{List, [], _∷_, _++_, map, flatMap, map-append}
-use Prim.Native.Nat.{ℕ, zero, suc, _+_, _*_, _^_, _≤_, _<_}
+use Prim.Native.Nat.{ℕ, _*_, _^_, _≤_, _<_}
 use native.Mathlib.Omega.{arith}
 use lib.ListN.{length, getD, length-map}
 use Rattle.sequences.specs.Ranges.{range}
@@ -17,14 +17,14 @@ use Rattle.components.specs.Numbered.{each-number-given}
 use Rattle.printing.specs.Lines.{lines, byCycles, AllOf, Forms, Regionwise, each-form, cycles-give-lines, room, room-suffices}
 
 -- The outlines of all regions of an image of side 2^n, whose colours `px` stand in rising location code.
-unfoldable pub outlinesOf : ℕ → List ℕ → List Cycle
+unfoldable pub imageOutlines : ℕ → List ℕ → List Cycle
 unfolding listing numbers regions
-outlinesOf n px = listing n (numbers n px) (regions n px)
+imageOutlines n px = listing n (numbers n px) (regions n px)
 
 -- "one line a region": the whole text of the image.
 unfoldable pub imageText : ℕ → List ℕ → List ℕ
-unfolding lines regions outlinesOf
-imageText n px = lines (regions n px) (outlinesOf n px)
+unfolding lines regions imageOutlines
+imageText n px = lines (regions n px) (imageOutlines n px)
 
 map-flat : (f : ℕ → Cycle) (g : ℕ → List ℕ) (xs : List ℕ) → map f (flatMap g xs) ≡ flatMap (λ x. map f (g x)) xs
 unfolding flatMap
@@ -63,20 +63,20 @@ module _ (n : ℕ) (px : List ℕ) (small : n ≤ 8) where
       )
 
   -- The lines of an image are its outlines, cycle after cycle, with LF where the next is of another region or none is left.
-  pub lines-by-cycles : byCycles (outlinesOf n px) ≡ imageText n px
-  unfolding outlinesOf imageText lines
+  pub lines-by-cycles : byCycles (imageOutlines n px) ≡ imageText n px
+  unfolding imageOutlines imageText lines
   lines-by-cycles =
       subst (λ (l : List Cycle). byCycles l ≡ lines (regions n px) l) (sym (by-region n (numbers n px) (regions n px)))
       (cycles-give-lines (regionCycles n (numbers n px)) 0 (regions n px) regionwise)
 
-  pub outline-forms : Forms (outlinesOf n px)
-  unfolding outlinesOf
+  pub outline-forms : Forms (imageOutlines n px)
+  unfolding imageOutlines
   outline-forms = each-form (listing n (numbers n px) (regions n px)) (listed-is-cycle-form n (numbers n px) (regions n px) small)
 
   -- 9 a cycle, 4 a corner and 1 a line: at most 4^n cycles, 4 times 4^n corners and not more lines than cycles.
-  pub outlines-room : room (outlinesOf n px) ≤ 26 * 4 ^ n
-  unfolding room outlinesOf cycleCount cornerCount
+  pub outlines-room : room (imageOutlines n px) ≤ 26 * 4 ^ n
+  unfolding room imageOutlines cycleCount cornerCount
   outlines-room = omega (arith, cycles-fit n (numbers n px) (regions n px), corner-count-fits n (numbers n px) (regions n px) small)
 
   pub image-text-fits : length (imageText n px) ≤ 26 * 4 ^ n
-  image-text-fits = omega (arith, ap length lines-by-cycles, room-suffices (outlinesOf n px) outline-forms, outlines-room)
+  image-text-fits = omega (arith, ap length lines-by-cycles, room-suffices (imageOutlines n px) outline-forms, outlines-room)

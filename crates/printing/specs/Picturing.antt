@@ -1,26 +1,26 @@
 -- From a raster to its lines: what is asked at each step, and what each step says.
-use mathlib.Core.Path.{_≡_, refl, sym, ap, ap₂, _∙_, subst}
-use mathlib.Core.List.{List, _++_}
-use Prim.Native.Nat.{ℕ, _*_, _^_, _≤_, _<_}
+use mathlib.Core.Path.{_≡_, sym, ap, _∙_, subst}
+use mathlib.Core.List.{List, map}
+use Prim.Native.Nat.{ℕ, _*_, _^_, _≤_}
 use native.Mathlib.Omega.{arith}
-use lib.ListN.{length, take, drop, length-append}
+use lib.ListN.{length, take, drop, length-append, length-map, length-take}
 use Rattle.sequences.specs.Over.{over}
 use Rattle.sequences.specs.Powers.{pow4-mono}
 use Rattle.quadtree.specs.Blocks.{Block, blocks, paint}
-use Rattle.quadtree.specs.Fields.{codes, levels, colours, blocks-of-fields}
+use Rattle.quadtree.specs.Fields.{blocks-of-fields}
 use Rattle.quadtree.specs.Number.{number}
 use Rattle.quadtree.specs.Painting.{paint-quadtree}
 use Rattle.quadtree.specs.Quadtree.{quadtree}
 use Rattle.quadtree.specs.Raster.{inCodeOrder}
 use Rattle.quadtree.specs.Orders.{length-in-code-order}
-use Rattle.blocks.specs.Rasters.{FromRaster, raster-accepted}
+use Rattle.blocks.specs.Rasters.{blocksWritten, FromRaster, raster-accepted}
 use Rattle.blocks.specs.RoundTrip.{codes-written, levels-written, colours-written, merged-accepted}
 use Rattle.blocks.specs.declared.Written.{Written}
-use Rattle.grid.specs.Listing.{Cycle, owners, ends, allCorners}
+use Rattle.grid.specs.Listing.{owners, ends, allCorners}
 use Rattle.grid.specs.Stretches.{length-owners}
 use Rattle.paths.specs.Answers.{Put}
-use Rattle.printing.specs.Lines.{byCycles, Forms, room}
-use Rattle.printing.specs.Outlines.{outlinesOf, imageText, lines-by-cycles, outline-forms, outlines-room}
+use Rattle.printing.specs.Lines.{byCycles}
+use Rattle.printing.specs.Outlines.{imageOutlines, imageText, lines-by-cycles, outline-forms, outlines-room}
 use Rattle.printing.specs.Held.{cyclesIn, tracing-held}
 use Rattle.printing.specs.Writing.{Drawable}
 
@@ -30,15 +30,34 @@ pub record Drawing (n : ℕ) (raster text : List ℕ) : Type 0 where
   pub whole : length raster ≡ 4 ^ n
   pub enough : 26 * 4 ^ n ≤ length text
 
--- What is asked for the lines of a block list: it is accepted besides.
+-- What is asked for the lines of a block list: it is accepted, and has at most as many blocks.
 pub record Traceable (n : ℕ) (cs ls ks text : List ℕ) : Type 0 where
   pub low : n ≤ 6
+  pub few : length cs ≤ 4096
   pub accepted : number n cs ls ks ≡ 0
   pub enough : 26 * 4 ^ n ≤ length text
 
 -- A side of at most 64 has at most 4,096 pixels.
 pub few-pixels : {n : ℕ} → n ≤ 6 → 4 ^ n ≤ 4096
 few-pixels {n} h = pow4-mono {i = n} {j = 6} h
+
+-- What was laid over a list is no longer than the list then is.
+over-holds : {A : Type 0} (bs : List A) (f : A → ℕ) (old : List ℕ) {list : List ℕ} {k : ℕ} → list ≡ over (map f bs) old → k ≡ length bs → k ≤ length list
+unfolding over
+over-holds bs f old e h = omega (arith, ap length e, length-append (map f bs) (drop (length (map f bs)) old), length-map bs f)
+
+module _ {n : ℕ} {raster cs ls ks cs₁ ls₁ ks₁ : List ℕ} {r : Written} (p : FromRaster n raster cs ls ks cs₁ ls₁ ks₁ r) where
+  count-is : r .count ≡ length (blocksWritten n raster cs ls ks)
+  count-is = ap (λ (w : Written). w .count) (p .answer)
+
+  pub count-in-codes : r .count ≤ length cs₁
+  count-in-codes = over-holds (blocksWritten n raster cs ls ks) (λ (b : Block). b .code) cs (p .in-codes) count-is
+
+  pub count-in-levels : r .count ≤ length ls₁
+  count-in-levels = over-holds (blocksWritten n raster cs ls ks) (λ (b : Block). b .level) ls (p .in-levels) count-is
+
+  pub count-in-colours : r .count ≤ length ks₁
+  count-in-colours = over-holds (blocksWritten n raster cs ls ks) (λ (b : Block). b .colour) ks (p .in-colours) count-is
 
 -- The quadtree of the raster is merged into lists that have room for it.
 module _ {n : ℕ} {raster text cs ls ks cs₁ ls₁ ks₁ : List ℕ} {r : Written} (d : Drawing n raster text) (p : FromRaster n raster cs ls ks cs₁ ls₁ ks₁ r)
@@ -49,33 +68,38 @@ module _ {n : ℕ} {raster text cs ls ks cs₁ ls₁ ks₁ : List ℕ} {r : Writ
       ap (λ (w : Written). w .number) (p .answer)
       ∙ sym (raster-accepted n raster cs ls ks (omega (arith, d .low)) (d .whole) (omega arith) (omega arith) (omega arith))
 
-  pub merged-traceable : Traceable n (take (r .count) cs₁) (take (r .count) ls₁) (take (r .count) ks₁) text
-  merged-traceable = record { low = d .low; accepted = merged-accepted p merged-zero; enough = d .enough }
+  pub merged-traceable : length cs₁ ≤ 4096 → Traceable n (take (r .count) cs₁) (take (r .count) ls₁) (take (r .count) ks₁) text
+  merged-traceable h =
+      record { low = d .low; few = omega (arith, length-take (r .count) cs₁); accepted = merged-accepted p merged-zero; enough = d .enough }
 
   -- It paints the raster's image.
-  pub merged-image : paint (blocks (take (r .count) cs₁) (take (r .count) ls₁) (take (r .count) ks₁)) ≡ inCodeOrder n raster
+  merged-image : paint (blocks (take (r .count) cs₁) (take (r .count) ls₁) (take (r .count) ks₁)) ≡ inCodeOrder n raster
   merged-image =
       let px : List ℕ = inCodeOrder n raster in
       let bs : blocks (take (r .count) cs₁) (take (r .count) ls₁) (take (r .count) ks₁) ≡ quadtree n px =
       rw (codes-written p merged-zero, levels-written p merged-zero, colours-written p merged-zero) (blocks-of-fields (quadtree n px)) in
       ap paint bs ∙ paint-quadtree n px (length-in-code-order n raster)
 
+  pub merged-drawn : {text₁ text′ : List ℕ} {k : ℕ} → Put (imageText n (paint (blocks (take (r .count) cs₁) (take (r .count) ls₁) (take (r .count) ks₁)))) text₁ text′ k
+      → Put (imageText n (inCodeOrder n raster)) text₁ text′ k
+  merged-drawn {text₁} {text′} {k} q = subst (λ (px : List ℕ). Put (imageText n px) text₁ text′ k) merged-image q
+
 -- The lists of a tracing, before (os₀, es₀, cs₀) and after, hold the outlines of an image.
 pub record Outlined (n : ℕ) (px os₀ es₀ cs₀ os es cs : List ℕ) (count : ℕ) : Type 0 where
-  pub counted : count ≡ length (outlinesOf n px)
-  pub in-owners : os ≡ over (owners (outlinesOf n px)) os₀
-  pub in-ends : es ≡ over (ends (outlinesOf n px)) es₀
-  pub in-corners : cs ≡ over (allCorners (outlinesOf n px)) cs₀
+  pub counted : count ≡ length (imageOutlines n px)
+  pub in-owners : os ≡ over (owners (imageOutlines n px)) os₀
+  pub in-ends : es ≡ over (ends (imageOutlines n px)) es₀
+  pub in-corners : cs ≡ over (allCorners (imageOutlines n px)) cs₀
 
 module _ {n : ℕ} {px os₀ es₀ cs₀ os es cs : List ℕ} {count : ℕ} (small : n ≤ 8) (o : Outlined n px os₀ es₀ cs₀ os es cs count) where
-  held : cyclesIn os es cs count ≡ outlinesOf n px
-  held = rw (o .counted, o .in-owners, o .in-ends, o .in-corners) (tracing-held (outlinesOf n px) os₀ es₀ cs₀)
+  held : cyclesIn os es cs count ≡ imageOutlines n px
+  held = rw (o .counted, o .in-owners, o .in-ends, o .in-corners) (tracing-held (imageOutlines n px) os₀ es₀ cs₀)
 
   pub drawable : {text : List ℕ} → 26 * 4 ^ n ≤ length text → Drawable os es cs count text
   unfolding over
   drawable {text} h =
       record {
-        owned = omega (arith, o .counted, ap length (o .in-owners), length-append (owners (outlinesOf n px)) (drop (length (owners (outlinesOf n px))) os₀), length-owners (outlinesOf n px));
+        owned = omega (arith, o .counted, ap length (o .in-owners), length-append (owners (imageOutlines n px)) (drop (length (owners (imageOutlines n px))) os₀), length-owners (imageOutlines n px));
         forms = rw held (outline-forms n px small);
         enough = rw held (omega (arith, outlines-room n px small));
       }

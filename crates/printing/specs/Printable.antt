@@ -1,25 +1,23 @@
 -- Laws of what is printed: the need suffices, and the answers in the order of the tests.
-use mathlib.Core.Path.{_≡_, refl, sym, ap, ap₂, _∙_, subst}
-use mathlib.Core.Bool.{Bool, true, false}
-use mathlib.Core.List.{List, [], _∷_, _++_}
+use mathlib.Core.Path.{_≡_, refl, sym, ap, ap₂, _∙_}
+use mathlib.Core.List.{List, [], _∷_}
 use Prim.Native.Nat.{ℕ, zero, suc, _+_, _*_, _/_, _%_, _^_, _≤_, _<_}
 use native.Mathlib.Decide.{decLt}
 use native.Mathlib.Omega.{arith}
 use lib.Dec.{ltb}
-use lib.ListN.{length, set, drop, length-append}
+use lib.ListN.{length}
 use lib.Seq.{sets, sets-eq}
 use borrow.Author.Tests.{lt-ltb, le-ltb, ltb-false}
 use Rattle.sequences.specs.Cases.{first, when, first-none, first-some, first-zero, when-yes, when-no, when-zero}
 use Rattle.sequences.specs.Over.{over, over-none}
 use Rattle.sequences.specs.Powers.{square-of-side, pow4-mono}
 use Rattle.quadtree.specs.Raster.{inCodeOrder}
-use Rattle.paths.specs.Decimal.{decimal, decimal-two}
+use Rattle.paths.specs.Decimal.{decimal-two}
 use Rattle.paths.specs.Answers.{Put}
 use Rattle.paths.specs.declared.Written.{Written}
-use Rattle.pgm.specs.Accepted.{Accepted}
 use Rattle.pgm.specs.Callers.{zero-accepted, refused-number, stretch-inside, stretch-length}
 use Rattle.pgm.specs.Picture.{answer, stretch}
-use Rattle.printing.specs.Outlines.{imageText, image-text-fits}
+use Rattle.printing.specs.Outlines.{image-text-fits}
 use Rattle.printing.specs.Printed.{refusedLine, inputNumber, pictureText, textFor, wholeText, needFor, textNeed, printNumber, ifRoom, printed, Printing, Refusing}
 
 -- The line of a number of two digits, byte by byte.
@@ -92,7 +90,7 @@ module _ {number : ℕ} {text : List ℕ} (two : (10 ≤ number) × (number < 10
 
 -- The text, the need and the number of a refusal.
 module _ (bytes : List ℕ) {number : ℕ} (some : 0 < number) (e : inputNumber bytes ≡ number) where
-  refusal-text : wholeText bytes ≡ refusedLine number
+  pub refusal-text : wholeText bytes ≡ refusedLine number
   unfolding wholeText textFor
   refusal-text = ap (λ (k : ℕ). textFor k bytes) e ∙ pick number some
     where
@@ -126,7 +124,7 @@ module _ (bytes : List ℕ) {number : ℕ} (some : 0 < number) (e : inputNumber 
 
 -- The text, the need and the number of an accepted picture.
 module _ (bytes : List ℕ) (e : inputNumber bytes ≡ 0) where
-  accepted-text : wholeText bytes ≡ pictureText bytes
+  pub accepted-text : wholeText bytes ≡ pictureText bytes
   unfolding wholeText textFor
   accepted-text = ap (λ (k : ℕ). textFor k bytes) e
 

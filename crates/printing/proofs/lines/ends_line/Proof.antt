@@ -1,41 +1,30 @@
-use native.Mathlib.Omega.{arith}
-use lib.ListN.{length}
+-- The last of all cycles ends a line, and any other one where the next owner is another region.
 use Rattle.printing.specs.Held.{line-at-end, line-by-owners}
 use borrow.Author.Needs.{needs}
 use Rattle.printing.proofs.lines.ends_line.Statement.{statement}
 use Rattle.printing.proofs.lines.ends_line.Tie as tie
-use Rattle.printing.proofs.lines.ends_line.Reads as reads
-use Rattle.printing.proofs.lines.ends_line.Lts as lts
 
--- src/lines.rt:17:18
 add-if1 : tie.Need-add-if1
 add-if1 c = search needs
 
--- src/lines.rt:18:9
 returns : tie.Need-returns
 returns c = line-at-end _ _ _ (c .if1 .taken)
 
--- src/lines.rt:21:12
 add-result : tie.Need-add-result
 add-result c = search needs
 
--- src/lines.rt:21:5
 mul-result : tie.Need-mul-result
 mul-result c = search needs
 
--- src/lines.rt:21:5
 shared-slice-read-result : tie.Need-shared-slice-read-result
 shared-slice-read-result c = search needs
 
--- src/lines.rt:21:22
 mul-result-2 : tie.Need-mul-result-2
 mul-result-2 c = search needs
 
--- src/lines.rt:21:22
 shared-slice-read-result-2 : tie.Need-shared-slice-read-result-2
 shared-slice-read-result-2 c = search needs
 
--- src/lines.rt:13:1
 returns-2 : tie.Need-returns-2
 returns-2 c = line-by-owners _ _ _ (c .before .before .if1 .left)
 

@@ -1,42 +1,31 @@
+-- The corners are a cycle form and the text has room, so path data is written; LF then has room in the byte after it.
 use native.Mathlib.Omega.{arith}
-use lib.ListN.{length, length-set}
 use Rattle.printing.specs.Writing.{end-room, put-plain, put-ended}
 use borrow.Author.Needs.{needs}
 use Rattle.printing.proofs.lines.put_cycle.Statement.{statement}
 use Rattle.printing.proofs.lines.put_cycle.Tie as tie
-use Rattle.printing.proofs.lines.put_cycle.Reads as reads
-use Rattle.printing.proofs.lines.put_cycle.Lts as lts
-use Rattle.paths.proofs.svg.Reads as svg-reads
 
--- src/lines.rt:27:9
 svg-requires : tie.Need-svg-requires
 svg-requires c κs = search needs
 
--- src/lines.rt:28:13
 cast-n : tie.Need-cast-n
 cast-n c = search needs
 
--- src/lines.rt:30:9
 slice-write-text : tie.Need-slice-write-text
 slice-write-text c = omega (arith, end-room (c .before .before .before .before .before .before .before .before .pre) (c .before .before .before .before .svg .ensures), c .before .before .before .before .svg .kept .1 .0)
 
--- src/lines.rt:31:16
 add-result : tie.Need-add-result
 add-result c = omega (arith, end-room (c .before .before .before .before .before .before .before .before .pre) (c .before .before .before .before .svg .ensures), c .before .before .before .before .before .before .before .before .good)
 
--- src/lines.rt:31:9
 same-length : tie.Need-same-length
 same-length c = search needs
 
--- src/lines.rt:31:9
 returns : tie.Need-returns
 returns c = put-ended (c .before .before .before .before .before .before .before .before .pre) (c .before .before .before .before .svg .ensures) (c .if1 .taken)
 
--- src/lines.rt:23:1
 same-length-2 : tie.Need-same-length-2
 same-length-2 c = search needs
 
--- src/lines.rt:23:1
 returns-2 : tie.Need-returns-2
 returns-2 c = put-plain (c .before .before .before .before .before .before .before .before .pre) (c .before .before .before .before .svg .ensures) (c .if1 .left)
 

@@ -1,17 +1,11 @@
+-- The loop's invariant: what was written and the text of the cycles left are the whole, and the cycles left have room. The measure:
+-- the cycles left.
 use Rattle.printing.specs.Writing.{Underway, begin, room-after, one-cycle, turn, put-short, finish}
-use mathlib.Core.Path.{_≡_, refl, sym, ap, _∙_}
-use mathlib.Core.Logic.{⊎-elim}
-use Prim.Native.Nat.{ℕ, _≤_, _<_, _-_, _+_}
+use Prim.Native.Nat.{_-_}
 use native.Mathlib.Omega.{arith}
-use lib.ListN.{length, take, drop, getD, set}
 use borrow.Author.Needs.{needs}
 use Rattle.printing.proofs.lines.write.Statement.{statement}
 use Rattle.printing.proofs.lines.write.Tie as tie
-use Rattle.printing.proofs.lines.write.Reads as reads
-use Rattle.printing.proofs.lines.write.Lts as lts
-use Rattle.paths.proofs.cycle.Reads as cycle-reads
-use Rattle.printing.proofs.lines.ends_line.Reads as ends-line-reads
-use Rattle.printing.proofs.lines.put_cycle.Reads as put-cycle-reads
 
 abbrev Inv-loop : tie.InvT-loop
 Inv-loop owners ends corners cycles text₀ at₀ k₀ text at k = Underway owners ends corners cycles text₀ text at k
@@ -19,55 +13,42 @@ Inv-loop owners ends corners cycles text₀ at₀ k₀ text at k = Underway owne
 abbrev μ-loop : tie.MeasureT-loop
 μ-loop owners ends corners cycles text₀ at₀ k₀ text at k = cycles - k
 
--- src/lines.rt:51:5
 loop-holds : tie.Need-loop-holds Inv-loop μ-loop
 loop-holds c = begin (c .before .before .before .before .pre)
 
--- src/lines.rt:52:13
 cycle-requires : tie.Need-cycle-requires Inv-loop μ-loop
 cycle-requires c κs = search needs
 
--- src/lines.rt:53:13
 ends-line-requires : tie.Need-ends-line-requires Inv-loop μ-loop
 ends-line-requires c κs = (c .before .loop-test .taken, c .before .before .before .before .before .before .before .pre .owned)
 
--- src/lines.rt:54:39
 sub-put-cycle : tie.Need-sub-put-cycle Inv-loop μ-loop
 sub-put-cycle c = omega (arith, room-after (c .before .before .before .loop .inv) (c .before .before .loop-test .taken))
 
--- src/lines.rt:54:39
 part-put-cycle-start : tie.Need-part-put-cycle-start Inv-loop μ-loop
 part-put-cycle-start c = omega (arith, room-after (c .before .before .before .loop .inv) (c .before .before .loop-test .taken))
 
--- src/lines.rt:54:39
 part-put-cycle-end : tie.Need-part-put-cycle-end Inv-loop μ-loop
 part-put-cycle-end c = search needs
 
--- src/lines.rt:54:13
 put-cycle-requires : tie.Need-put-cycle-requires Inv-loop μ-loop
 put-cycle-requires c κs = one-cycle (c .before .before .before .before .loop .inv) (c .before .before .before .loop-test .taken) (c .before .before .cycle .ensures .corners-are)
 
--- src/lines.rt:55:9
 add-at : tie.Need-add-at Inv-loop μ-loop
 add-at c = omega (arith, put-short (c .before .before .before .before .before .before .before .loop .inv) (c .before .before .before .before .before .before .loop-test .taken) (c .before .before .before .before .before .cycle .ensures .corners-are) (c .before .before .before .before .ends-line .ensures) (c .before .before .put-cycle .ensures), c .before .before .before .before .before .before .before .loop .inv .long, c .before .before .before .before .before .before .before .before .before .before .before .before .good)
 
--- src/lines.rt:56:9
 add-k : tie.Need-add-k Inv-loop μ-loop
 add-k c = search needs
 
--- src/lines.rt:51:5
 loop-less : tie.Need-loop-less Inv-loop μ-loop
 loop-less c = search needs
 
--- src/lines.rt:51:5
 loop-again : tie.Need-loop-again Inv-loop μ-loop
 loop-again c = turn (c .before .before .before .before .before .before .before .loop .inv) (c .before .before .before .before .before .before .loop-test .taken) (c .before .before .before .before .before .cycle .ensures .corners-are) (c .before .before .before .before .ends-line .ensures) (c .before .before .put-cycle .ensures)
 
--- src/lines.rt:39:1
 same-length : tie.Need-same-length Inv-loop μ-loop
 same-length c = c .before .loop .inv .long
 
--- src/lines.rt:39:1
 returns : tie.Need-returns Inv-loop μ-loop
 returns c = finish (c .before .loop .inv) (c .loop-test .left)
 
