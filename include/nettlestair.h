@@ -18,6 +18,12 @@ struct nettlestair_written {
     uint32_t count;
 };
 
+/* What numbering answers: its number, and how many regions there are. */
+struct nettlestair_numbered {
+    uint32_t number;
+    uint32_t regions;
+};
+
 /* A part of a lent list: its place and its length in entries. */
 struct nettlestair_stretch {
     size_t start;
@@ -48,6 +54,13 @@ struct nettlestair_written nettlestair_raster_from_blocks(uint32_t n, const uint
                                                           const uint8_t *levels, size_t levels_len,
                                                           const uint8_t *colours, size_t colours_len, uint8_t *raster,
                                                           size_t raster_len);
+
+/* The region number of each block, at its place in the labels, and how many regions there are: 0, or 1 to 8. The labels have
+   room for one entry a block, the work list for 2 times 4^n; on acceptance that many of its entries are 0. What follows in either
+   list stays as it was. */
+struct nettlestair_numbered nettlestair_number(uint32_t n, const uint32_t *codes, size_t codes_len, const uint8_t *levels,
+                                               size_t levels_len, const uint8_t *colours, size_t colours_len,
+                                               uint32_t *labels, size_t labels_len, uint32_t *work, size_t work_len);
 
 /* Where the corners of cycle k stand in a corner list, by an end list and a cycle count; {0, 0} where there are none. */
 struct nettlestair_stretch nettlestair_cycle(const uint32_t *corners, size_t corners_len, const uint32_t *ends,

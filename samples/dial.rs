@@ -1,6 +1,8 @@
 //! A clock face as colours: ring, minute marks, numerals and hands. Its shapes are laid out on a square of 64 units with the
 //! middle at (32, 32); a pixel takes the colour of the shape at its middle, so the face can have any side.
 
+use std::f64::consts::TAU;
+
 const AROUND: u8 = 0;
 const RING: u8 = 150;
 const FACE: u8 = 240;
@@ -26,34 +28,41 @@ const DIGITS: [[&str; 5]; 10] = [
     ["###", "#.#", "###", "..#", "###"],
 ];
 
-/// A stroke along the ray at `minute` (of 60, clockwise from the north), from one distance from the middle to another.
+/// A stroke of one colour along a ray from the middle, from one distance to another.
 struct Stroke {
     colour: u8,
-    minute: f64,
+    east: f64,
+    south: f64,
     from: f64,
     to: f64,
     half_width: f64,
 }
 
 impl Stroke {
+    /// The ray points to `minute` of 60, clockwise from the north.
+    fn new(colour: u8, minute: f64, from: f64, to: f64, half_width: f64) -> Stroke {
+        let angle = minute * TAU / 60.0;
+        Stroke { colour, east: angle.sin(), south: -angle.cos(), from, to, half_width }
+    }
+
     fn covers(&self, x: f64, y: f64) -> bool {
-        let angle = self.minute * std::f64::consts::TAU / 60.0;
-        let (east, south) = (angle.sin(), -angle.cos());
-        let along = (x * east + y * south).clamp(self.from, self.to);
-        (x - along * east).hypot(y - along * south) <= self.half_width
+        let along = (x * self.east + y * self.south).clamp(self.from, self.to);
+        let (dx, dy) = (x - along * self.east, y - along * self.south);
+        dx * dx + dy * dy <= self.half_width * self.half_width
     }
 }
 
-/// The strokes, those on top first: the hands at eight past ten, then the marks.
-fn strokes() -> Vec<Stroke> {
+/// The strokes, those on top first: the hands at this time, then the marks.
+fn strokes(time: u32) -> Vec<Stroke> {
+    let (hour, minute, second) = (f64::from(time) / 3600.0, f64::from(time) / 60.0, f64::from(time % 60));
     let mut strokes = vec![
-        Stroke { colour: SECONDS, minute: 32.0, from: -6.0, to: 23.0, half_width: 0.5 },
-        Stroke { colour: HAND, minute: 8.0, from: -4.0, to: 22.0, half_width: 0.9 },
-        Stroke { colour: HAND, minute: 50.0 + 8.0 / 12.0, from: -4.0, to: 12.0, half_width: 1.3 },
+        Stroke::new(SECONDS, second, -6.0, 23.0, 0.5),
+        Stroke::new(HAND, minute.floor(), -4.0, 22.0, 0.9),
+        Stroke::new(HAND, hour * 5.0, -4.0, 12.0, 1.3),
     ];
     for minute in 0..60 {
         let (from, half_width) = if minute % 5 == 0 { (24.5, 0.8) } else { (26.0, 0.6) };
-        strokes.push(Stroke { colour: MARK, minute: f64::from(minute), from, to: 27.0, half_width });
+        strokes.push(Stroke::new(MARK, f64::from(minute), from, 27.0, half_width));
     }
     strokes
 }
@@ -62,7 +71,7 @@ fn strokes() -> Vec<Stroke> {
 fn numerals() -> Vec<(i32, i32)> {
     let mut units = Vec::new();
     for hour in 1..=12 {
-        let angle = f64::from(hour) * std::f64::consts::TAU / 12.0;
+        let angle = f64::from(hour) * TAU / 12.0;
         let text = hour.to_string();
         let width = 4.0 * text.len() as f64 - 1.0;
         let west = (MIDDLE + 18.5 * angle.sin() - width / 2.0).round() as i32;
@@ -78,9 +87,9 @@ fn numerals() -> Vec<(i32, i32)> {
     units
 }
 
-/// The clock face of `side` by `side` pixels, row by row.
-pub fn clock(side: usize) -> Vec<u8> {
-    let (strokes, numerals) = (strokes(), numerals());
+/// The clock face of `side` by `side` pixels, row by row, at a time in seconds after twelve.
+pub fn clock(side: usize, time: u32) -> Vec<u8> {
+    let (strokes, numerals) = (strokes(time), numerals());
     let colour = |x: f64, y: f64| {
         let from_middle = (x - MIDDLE).hypot(y - MIDDLE);
         if from_middle > 31.0 {

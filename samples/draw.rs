@@ -5,6 +5,9 @@ mod dial;
 use std::path::Path;
 use std::{env, fs, io};
 
+/// The time that the clocks show: eight past ten, and 32 seconds.
+const TIME: u32 = (10 * 60 + 8) * 60 + 32;
+
 /// A binary PGM with a maxval of 255.
 fn pgm(width: usize, height: usize, raster: &[u8]) -> Vec<u8> {
     [format!("P5\n{width} {height}\n255\n").as_bytes(), raster].concat()
@@ -13,8 +16,8 @@ fn pgm(width: usize, height: usize, raster: &[u8]) -> Vec<u8> {
 /// Each file with its bytes.
 fn samples() -> Vec<(&'static str, Vec<u8>)> {
     vec![
-        ("clock-64.pgm", pgm(64, 64, &dial::clock(64))),
-        ("clock-256.pgm", pgm(256, 256, &dial::clock(256))),
+        ("clock-64.pgm", pgm(64, 64, &dial::clock(64, TIME))),
+        ("clock-256.pgm", pgm(256, 256, &dial::clock(256, TIME))),
         // dials 1 to 5 of document 01
         ("dial-1.pgm", pgm(1, 1, &[1])),
         ("dial-2.pgm", pgm(4, 4, &[1, 1, 1, 1, 1, 2, 1, 1, 1, 1, 3, 3, 1, 1, 3, 3])),

@@ -36,6 +36,17 @@ int main(void) {
     w = nettlestair_raster_from_blocks(2, codes, 7, levels, 7, colours, 7, r, 15);
     expect("raster from blocks, too short", w.number == 8 && w.count == 0);
 
+    const uint32_t numbers[7] = {0, 0, 0, 1, 0, 0, 2}, zeros[32] = {0};
+    uint32_t labels[8], work[33];
+    memset(labels, 99, sizeof labels);
+    memset(work, 99, sizeof work);
+    struct nettlestair_numbered d = nettlestair_number(2, codes, 7, levels, 7, colours, 7, labels, 8, work, 33);
+    expect("numbers, answer", d.number == 0 && d.regions == 3);
+    expect("numbers, labels", !memcmp(labels, numbers, sizeof numbers) && labels[7] == 0x63636363);
+    expect("numbers, work", !memcmp(work, zeros, sizeof zeros) && work[32] == 0x63636363);
+    d = nettlestair_number(2, codes, 7, levels, 7, colours, 7, labels, 6, work, 33);
+    expect("numbers, too short", d.number == 8 && d.regions == 0);
+
     /* dial 1 */
     const uint32_t square[4] = {0, 1, 513, 512};
     uint8_t text[25], chain[4];

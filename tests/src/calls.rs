@@ -2,7 +2,7 @@
 
 use crate::compare::difference;
 use crate::lent::{Entry, Lent};
-use crate::library::{self, refused, Written};
+use crate::library::{self, refused, Numbered, Written};
 use crate::model::blocks::Blocks;
 use crate::random::Random;
 use std::fmt::{Debug, Display};
@@ -77,13 +77,53 @@ impl<T: Entry> Out<T> {
 
 /// Blocks to raster, with a raster of the given length.
 pub fn raster_from_blocks(random: &mut Random, n: u32, blocks: &Blocks, length: usize) -> Out<u8> {
+    handed_in(blocks, |Blocks { codes, levels, colours }| {
+        Out::of(random, length, |raster| library::raster_from_blocks(n, codes, levels, colours, raster))
+    })
+}
+
+/// The names of the lists that numbering (the first two) and tracing (all five) are lent.
+const NAMES: [&str; 5] = ["labels", "work", "owners", "ends", "corners"];
+
+/// A function over a block list, after a call: what it answered, and the lists of 32-bit numbers it was lent.
+pub struct Called<A, const LISTS: usize> {
+    pub answer: A,
+    pub lists: [Lent<u32>; LISTS],
+}
+
+/// What such a function should answer and write. It writes nothing where it refuses.
+pub struct Expected<A, const LISTS: usize> {
+    pub answer: A,
+    pub written: [Vec<u32>; LISTS],
+}
+
+impl<A: Copy + PartialEq + Debug, const LISTS: usize> Called<A, LISTS> {
+    /// What differs: the answer or an entry, also one that should be as it was.
+    pub fn difference(&self, expected: &Expected<A, LISTS>) -> Option<String> {
+        answer(expected.answer, self.answer).or_else(|| {
+            let lists = self.lists.iter().zip(&expected.written).zip(NAMES);
+            lists.into_iter().find_map(|((list, written), name)| Some(format!("{name}, {}", list.difference(written)?)))
+        })
+    }
+}
+
+/// Numbering, with a label list and a work list of the given lengths.
+pub fn number(random: &mut Random, n: u32, blocks: &Blocks, lengths: [usize; 2]) -> Called<Numbered, 2> {
+    let mut lists = lengths.map(|length| Lent::new(random, length));
+    let [labels, work] = lists.each_mut().map(Lent::lend);
+    let answer =
+        handed_in(blocks, |Blocks { codes, levels, colours }| library::number(n, codes, levels, colours, labels, work));
+    Called { answer, lists }
+}
+
+/// Hands a block list to a function, which leaves it as it was.
+fn handed_in<A>(blocks: &Blocks, function: impl FnOnce(&Blocks) -> A) -> A {
     let before = blocks.clone();
-    let Blocks { codes, levels, colours } = black_box(blocks);
-    let out = Out::of(random, length, |raster| library::raster_from_blocks(n, codes, levels, colours, raster));
-    unchanged("codes", &before.codes, black_box(codes));
-    unchanged("levels", &before.levels, black_box(levels));
-    unchanged("colours", &before.colours, black_box(colours));
-    out
+    let answer = function(black_box(blocks));
+    unchanged("codes", &before.codes, black_box(&blocks.codes));
+    unchanged("levels", &before.levels, black_box(&blocks.levels));
+    unchanged("colours", &before.colours, black_box(&blocks.colours));
+    answer
 }
 
 /// Fails where there is a difference.
@@ -93,7 +133,7 @@ pub fn agrees(what: impl Display, difference: Option<String>) {
     }
 }
 
-fn answer(expected: Written, found: Written) -> Option<String> {
+fn answer<A: PartialEq + Debug>(expected: A, found: A) -> Option<String> {
     (expected != found).then(|| format!("answer: expected {expected:?}, found {found:?}"))
 }
 

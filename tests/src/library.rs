@@ -8,6 +8,14 @@ pub struct Written {
     pub count: u32,
 }
 
+/// What numbering answers: its number, and how many regions there are.
+#[repr(C)]
+#[derive(Clone, Copy, Debug, PartialEq, Eq)]
+pub struct Numbered {
+    pub number: u32,
+    pub regions: u32,
+}
+
 /// A part of a lent list, by its place and length.
 #[repr(C)]
 #[derive(Clone, Copy, Debug, PartialEq, Eq)]
@@ -66,6 +74,20 @@ extern "C" {
         raster: *mut u8,
         raster_len: usize,
     ) -> Written;
+
+    fn nettlestair_number(
+        n: u32,
+        codes: *const u32,
+        codes_len: usize,
+        levels: *const u8,
+        levels_len: usize,
+        colours: *const u8,
+        colours_len: usize,
+        labels: *mut u32,
+        labels_len: usize,
+        work: *mut u32,
+        work_len: usize,
+    ) -> Numbered;
 
     fn nettlestair_cycle(
         corners: *const u32,
@@ -139,6 +161,26 @@ pub fn raster_from_blocks(n: u32, codes: &[u32], levels: &[u8], colours: &[u8], 
             colours.len(),
             raster.as_mut_ptr(),
             raster.len(),
+        )
+    }
+}
+
+/// The region number of each block, written to `labels`.
+pub fn number(n: u32, codes: &[u32], levels: &[u8], colours: &[u8], labels: &mut [u32], work: &mut [u32]) -> Numbered {
+    // Each pointer comes with the length of its slice.
+    unsafe {
+        nettlestair_number(
+            n,
+            codes.as_ptr(),
+            codes.len(),
+            levels.as_ptr(),
+            levels.len(),
+            colours.as_ptr(),
+            colours.len(),
+            labels.as_mut_ptr(),
+            labels.len(),
+            work.as_mut_ptr(),
+            work.len(),
         )
     }
 }

@@ -1,15 +1,17 @@
 //! Causes 1 to 8 of block lists: each alone, each pair that can occur together, and their order.
 
 use std::collections::BTreeSet;
-use tests::calls::{agrees, raster_from_blocks};
+use tests::calls::{agrees, number as numbering, raster_from_blocks};
 use tests::cases::Cases;
+use tests::expected::{needs, Model};
+use tests::faults;
 use tests::library::check;
 use tests::model::blocks::{conditions, number, paint, quadtree, Blocks};
 use tests::random::Random;
 use tests::rasters;
 
-/// Holds the check and blocks to raster to one number, with a raster that is long enough and with shorter ones: 8 is looked
-/// for after 1 to 7.
+/// Holds the check, blocks to raster and numbering to one number, with lists that are long enough and with shorter ones: 8 is
+/// looked for after 1 to 7.
 fn judged(what: &str, random: &mut Random, n: u32, blocks: &Blocks, expected: u32) {
     let Blocks { codes, levels, colours } = blocks;
     assert_eq!(check(n, codes, levels, colours), expected, "{what}: check of n = {n}, {blocks}");
@@ -22,6 +24,14 @@ fn judged(what: &str, random: &mut Random, n: u32, blocks: &Blocks, expected: u3
             _ => out.difference_from_refusal(expected),
         };
         agrees(format_args!("{what}: raster of {length} from n = {n}, {blocks}"), difference);
+    }
+    let model = Model::of(n, blocks);
+    assert_eq!(model.number, expected, "{what}: the model of n = {n}, {blocks}");
+    let [labels, work, ..] = needs(n, blocks.len());
+    for lengths in [[labels, work], [labels, work - 1], [labels.max(1) - 1, work], [0, 0]] {
+        let called = numbering(random, n, blocks, lengths);
+        let difference = called.difference(&model.numbering(lengths));
+        agrees(format_args!("{what}: numbers with lists of {lengths:?} from n = {n}, {blocks}"), difference);
     }
 }
 
@@ -289,7 +299,7 @@ fn damaged_lists() {
             for raster in rasters::of_every_kind(&mut random, n) {
                 let mut blocks = quadtree(n, &raster);
                 for _ in 0..=random.below(3) {
-                    damage(&mut random, &mut blocks);
+                    faults::in_blocks(&mut random, &mut blocks);
                 }
                 let Blocks { codes, levels, colours } = &blocks;
                 let expected = number(n, codes, levels, colours);
@@ -303,58 +313,4 @@ fn damaged_lists() {
     }
     assert_eq!(seen, BTreeSet::from([0, 2, 3, 4, 5, 6, 7]));
     cases.end();
-}
-
-/// One change of a block list, somewhere.
-fn damage(random: &mut Random, blocks: &mut Blocks) {
-    if blocks.is_empty() {
-        return blocks.push(random.word(), random.byte(), random.byte());
-    }
-    let at = random.below(blocks.len().min(blocks.levels.len()).min(blocks.colours.len()).max(1));
-    if at >= blocks.levels.len() || at >= blocks.colours.len() {
-        return;
-    }
-    match random.below(12) {
-        0 => blocks.codes[at] = blocks.codes[at].wrapping_add(1),
-        1 => blocks.codes[at] = blocks.codes[at].wrapping_sub(1),
-        2 => blocks.codes[at] = blocks.codes[at].wrapping_add(65536),
-        3 => blocks.codes[at] = random.word(),
-        4 => blocks.levels[at] = blocks.levels[at].wrapping_add(1),
-        5 => blocks.levels[at] = random.byte(),
-        6 => blocks.colours[at] = random.byte(),
-        7 => drop((blocks.codes.remove(at), blocks.levels.remove(at), blocks.colours.remove(at))),
-        8 => blocks.push(blocks.codes[at], blocks.levels[at], blocks.colours[at]),
-        9 => drop(blocks.colours.pop()),
-        10 => match blocks.levels[at] {
-            0 => {
-                // four blocks from here on have the first one's colour
-                let end = blocks.colours.len().min(at + 4);
-                let colour = blocks.colours[at];
-                blocks.colours[at..end].fill(colour);
-            }
-            level => split(blocks, at, level.min(16) - 1),
-        },
-        _ => {
-            // the level one too large, and the blocks that it then covers gone
-            blocks.levels[at] = blocks.levels[at].saturating_add(1);
-            for _ in 0..3.min(blocks.codes.len() - 1 - at) {
-                blocks.codes.remove(at + 1);
-                blocks.levels.remove(at + 1);
-                if at + 1 < blocks.colours.len() {
-                    blocks.colours.remove(at + 1);
-                }
-            }
-        }
-    }
-}
-
-/// A block in four of the level below it.
-fn split(blocks: &mut Blocks, at: usize, level: u8) {
-    let (code, colour) = (blocks.codes[at], blocks.colours[at]);
-    blocks.levels[at] = level;
-    for k in (1..4).rev() {
-        blocks.codes.insert(at + 1, code.wrapping_add(k << (2 * level)));
-        blocks.levels.insert(at + 1, level);
-        blocks.colours.insert(at + 1, colour);
-    }
 }

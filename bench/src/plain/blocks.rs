@@ -1,13 +1,15 @@
 //! Block lists: the check, raster to blocks, blocks to raster.
 
 use super::location::place;
-use crate::answers::Written;
+use crate::nettlestair::Written;
+use crate::sides::Blocks;
 
 /// Causes 1 to 7, in one pass over the blocks.
-pub fn check(n: u32, codes: &[u32], levels: &[u8], colours: &[u8]) -> u32 {
+pub fn check(n: u32, blocks: Blocks) -> u32 {
     if n > 8 {
         return 1;
     }
+    let Blocks { codes, levels, colours } = blocks;
     if codes.len() != levels.len() || levels.len() != colours.len() {
         return 2;
     }
@@ -15,7 +17,7 @@ pub fn check(n: u32, codes: &[u32], levels: &[u8], colours: &[u8]) -> u32 {
     let mut sum = 0;
     // How many blocks up to here have one level and one colour, and whether four of them are siblings.
     let (mut run, mut before, mut siblings) = (0, (u32::MAX, 0), false);
-    for ((&code, &level), &colour) in codes.iter().zip(levels).zip(colours) {
+    for (code, level, colour) in blocks.iter() {
         let level = u32::from(level);
         if level > n {
             return 3;
@@ -71,9 +73,8 @@ fn level_at(n: u32, raster: &[u8], code: u32, at: usize) -> u32 {
     let top = n.min(code.trailing_zeros() / 2);
     let side = 1 << n;
     let colour = raster[at];
-    let alike = |from: usize, s: usize| {
-        raster[from..].chunks(side).take(s).all(|row| row[..s].iter().all(|&c| c == colour))
-    };
+    let alike =
+        |from: usize, s: usize| raster[from..].chunks(side).take(s).all(|row| row[..s].iter().all(|&c| c == colour));
     (0..top)
         .find(|level| {
             let s = 1 << level;
@@ -84,8 +85,8 @@ fn level_at(n: u32, raster: &[u8], code: u32, at: usize) -> u32 {
 }
 
 /// The raster of a block list.
-pub fn raster_from_blocks(n: u32, codes: &[u32], levels: &[u8], colours: &[u8], raster: &mut [u8]) -> Written {
-    let fault = check(n, codes, levels, colours);
+pub fn raster_from_blocks(n: u32, blocks: Blocks, raster: &mut [u8]) -> Written {
+    let fault = check(n, blocks);
     if fault != 0 {
         return Written::refused(fault);
     }
@@ -93,7 +94,7 @@ pub fn raster_from_blocks(n: u32, codes: &[u32], levels: &[u8], colours: &[u8], 
     if raster.len() < whole {
         return Written::refused(8);
     }
-    for ((&code, &level), &colour) in codes.iter().zip(levels).zip(colours) {
+    for (code, level, colour) in blocks.iter() {
         fill_square(raster, n, place(n, code), level, colour);
     }
     Written { number: 0, count: whole as u32 }

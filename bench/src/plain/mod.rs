@@ -11,3 +11,23 @@ pub mod regions;
 pub use blocks::{blocks_from_raster, check, raster_from_blocks};
 pub use outlines::trace;
 pub use regions::number;
+
+use crate::nettlestair::{Numbered, Traced, Written};
+
+impl Written {
+    fn refused(number: u32) -> Written {
+        Written { number, count: 0 }
+    }
+}
+
+impl Numbered {
+    fn refused(number: u32) -> Numbered {
+        Numbered { number, regions: 0 }
+    }
+}
+
+impl Traced {
+    fn refused(number: u32) -> Traced {
+        Traced { number, regions: 0, cycles: 0, corners: 0 }
+    }
+}

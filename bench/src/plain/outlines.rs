@@ -4,7 +4,8 @@
 use super::blocks::{check, fill_square};
 use super::location::{pixel, place};
 use super::regions::number_blocks;
-use crate::answers::Traced;
+use crate::nettlestair::Traced;
+use crate::sides::{Blocks, Lent};
 
 /// Set in a map entry once the north side of its pixel is walked.
 const WALKED: u32 = 1 << 31;
@@ -15,23 +16,14 @@ const STEP: [u32; 4] = [1, 0u32.wrapping_sub(512), 0u32.wrapping_sub(1), 512];
 /// The tail of the edge that goes east, north, west, south around its pixel, less that pixel.
 const TAIL: [u32; 4] = [0, 512, 513, 1];
 
-/// What a tracing is lent besides the block list.
-pub struct Lent<'a> {
-    pub labels: &'a mut [u32],
-    pub work: &'a mut [u32],
-    pub owners: &'a mut [u32],
-    pub ends: &'a mut [u32],
-    pub corners: &'a mut [u32],
-}
-
-pub fn trace(n: u32, codes: &[u32], levels: &[u8], colours: &[u8], lent: Lent) -> Traced {
-    let fault = check(n, codes, levels, colours);
+pub fn trace(n: u32, blocks: Blocks, lent: Lent) -> Traced {
+    let fault = check(n, blocks);
     if fault != 0 {
         return Traced::refused(fault);
     }
     let Lent { labels, work, owners, ends, corners } = lent;
-    let whole = 1usize << (2 * n);
-    if labels.len() < codes.len()
+    let (whole, count) = (1usize << (2 * n), blocks.codes.len());
+    if labels.len() < count
         || work.len() < 2 * whole
         || owners.len() < whole
         || ends.len() < whole
@@ -39,17 +31,17 @@ pub fn trace(n: u32, codes: &[u32], levels: &[u8], colours: &[u8], lent: Lent) -
     {
         return Traced::refused(8);
     }
-    let labels = &mut labels[..codes.len()];
-    let regions = number_blocks(n, codes, levels, colours, labels, work);
+    let labels = &mut labels[..count];
+    let regions = number_blocks(n, blocks, labels, work);
 
     let (map, links) = work[..2 * whole].split_at_mut(whole);
-    for ((&code, &level), &label) in codes.iter().zip(levels).zip(&*labels) {
+    for ((code, level, _), &label) in blocks.iter().zip(&*labels) {
         fill_square(map, n, place(n, code), level, label);
     }
-    let links = &mut links[..codes.len()];
+    let links = &mut links[..count];
     link(labels, links, &mut owners[..regions as usize]);
 
-    let (cycles, corners) = list(&mut Map { n, cells: map }, codes, levels, labels, links, owners, ends, corners);
+    let (cycles, corners) = list(&mut Map { n, cells: map }, blocks, labels, links, owners, ends, corners);
     work[..2 * whole].fill(0);
     Traced { number: 0, regions, cycles, corners }
 }
@@ -65,11 +57,9 @@ fn link(labels: &[u32], links: &mut [u32], heads: &mut [u32]) {
 }
 
 /// Lists the cycles region by region, each region's in rising code of their starts; returns how many cycles and corners.
-#[allow(clippy::too_many_arguments)]
 fn list(
     map: &mut Map,
-    codes: &[u32],
-    levels: &[u8],
+    blocks: Blocks,
     labels: &[u32],
     links: &[u32],
     owners: &mut [u32],
@@ -84,8 +74,8 @@ fn list(
         let mut next = first as u32 + 1;
         while next != 0 {
             let block = next as usize - 1;
-            let (x, y) = pixel(codes[block]);
-            for x in x..x + (1 << levels[block]) {
+            let (x, y) = pixel(blocks.codes[block]);
+            for x in x..x + (1 << blocks.levels[block]) {
                 if map.starts(x, y) {
                     end += map.walk((y << 9 | x) as u32, &mut corners[end..]);
                     owners[cycles] = region;

@@ -3,6 +3,7 @@
 ghost use mathlib.Core.Path.{_≡_};
 ghost use Rattle.quadtree.specs.Number.{number};
 ghost use Rattle.blocks.specs.Rasters.{FromRaster, ToRaster};
+ghost use Rattle.regions.specs.Promise.{Numbering};
 ghost use Rattle.paths.specs.Stretch.{Place};
 ghost use Rattle.paths.specs.Svg.{Svg};
 ghost use Rattle.paths.specs.Chain.{ChainWritten};
@@ -14,6 +15,13 @@ ghost use Rattle.pgm.specs.Picture.{Answered};
 pub struct Written {
     pub number: u32,
     pub count: u32,
+}
+
+// The number of an answer, 0 for acceptance, and how many regions there are.
+#[repr(C)]
+pub struct Numbered {
+    pub number: u32,
+    pub regions: u32,
 }
 
 // A part of a lent list, by its place and length.
@@ -71,6 +79,24 @@ pub extern "C" fn nettlestair_raster_from_blocks(
     Written {
         number: r.number,
         count: r.count,
+    }
+}
+
+#[no_mangle]
+pub extern "C" fn nettlestair_number(
+    n: u32,
+    codes: &[u32],
+    levels: &[u8],
+    colours: &[u8],
+    labels: &mut [u32],
+    work: &mut [u32],
+) -> Numbered
+    ensures { λ r. ⌜ Numbering n (now (codes .entry)) (now (levels .entry)) (now (colours .entry)) (now (labels .entry)) (now (work .entry)) (now (labels .exit)) (now (work .exit)) (record { number = r .number; regions = r .regions }) ⌝ }
+{
+    let r = regions::number(n, codes, levels, colours, labels, work);
+    Numbered {
+        number: r.number,
+        regions: r.regions,
     }
 }
 

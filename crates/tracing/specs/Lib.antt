@@ -15,3 +15,6 @@ pub mod Rows
 pub mod Blocks
 pub mod Going
 pub mod Regions
+pub mod Outlining
+pub mod Tracing
+pub mod Accepting

@@ -1,6 +1,101 @@
 // The outlines of all regions of a block list: a map of region numbers, and a walk along each cycle that writes its corners.
+use crate::listing::Counts;
+ghost use mathlib.Core.Path.{_≡_};
+ghost use Rattle.tracing.specs.Outlining.{OutlinesAsked, OutlinesTold};
+ghost use Rattle.tracing.specs.Tracing.{lent, tracingNumber, Tracing};
+
 mod chains;
 mod cycle;
 mod listing;
 mod look;
 mod map;
+
+// The number of an answer, 0 for acceptance, and the counts of regions, of cycles and of the corners of all cycles.
+pub struct Traced {
+    pub number: u32,
+    pub regions: u32,
+    pub cycles: u32,
+    pub corners: u32,
+}
+
+// The number of a block list and of the lists lent with it: causes 1 to 7, then 8.
+fn fault(
+    n: u32,
+    codes: &[u32],
+    levels: &[u8],
+    colours: &[u8],
+    labels: &[u32],
+    work: &[u32],
+    owners: &[u32],
+    ends: &[u32],
+    corners: &[u32],
+) -> u32
+    ensures { λ r. ⌜ r ≡ tracingNumber n (now (codes .entry)) (now (levels .entry)) (now (colours .entry)) (lent (now (labels .entry)) (now (work .entry)) (now (owners .entry)) (now (ends .entry)) (now (corners .entry))) ⌝ }
+{
+    let fault = blocks::check(n, codes, levels, colours);
+    if fault != 0 {
+        return fault;
+    }
+    let whole = location::pixels(n);
+    if labels.len() < codes.len() {
+        return 8;
+    }
+    if work.len() < 2 * whole {
+        return 8;
+    }
+    if owners.len() < whole {
+        return 8;
+    }
+    if ends.len() < whole {
+        return 8;
+    }
+    if corners.len() < 4 * whole {
+        return 8;
+    }
+    0
+}
+
+// Lists the outlines of all regions of labelled blocks. The work list holds the chains of blocks and the map meanwhile.
+fn outline(
+    n: u32,
+    codes: &[u32],
+    levels: &[u8],
+    labels: &[u32],
+    work: &mut [u32],
+    owners: &mut [u32],
+    ends: &mut [u32],
+    corners: &mut [u32],
+) -> Counts
+    requires { ⌜ OutlinesAsked n (now codes) (now levels) (now labels) (now work) (now owners) (now ends) (now corners) ⌝ }
+    ensures { λ r. ⌜ OutlinesTold n (now (codes .entry)) (now (levels .entry)) (now (labels .entry)) (now (work .entry)) (now (owners .entry)) (now (ends .entry)) (now (corners .entry)) (now (work .exit)) (now (owners .exit)) (now (ends .exit)) (now (corners .exit)) r ⌝ }
+{
+    let whole = location::pixels(n);
+    chains::link(whole, codes.len(), labels, work);
+    map::fill_map(n, codes, levels, labels, work);
+    let counts = listing::list_all(n, codes, levels, labels, work, owners, ends, corners);
+    map::fill_run(work, 0, 2 * whole, 0);
+    counts
+}
+
+// The outlines of all regions of a block list: labels, owners, ends and corners, and how many of each there are.
+pub fn trace(
+    n: u32,
+    codes: &[u32],
+    levels: &[u8],
+    colours: &[u8],
+    labels: &mut [u32],
+    work: &mut [u32],
+    owners: &mut [u32],
+    ends: &mut [u32],
+    corners: &mut [u32],
+) -> Traced
+    ensures { λ r. ⌜ Tracing n (now (codes .entry)) (now (levels .entry)) (now (colours .entry)) (lent (now (labels .entry)) (now (work .entry)) (now (owners .entry)) (now (ends .entry)) (now (corners .entry))) (lent (now (labels .exit)) (now (work .exit)) (now (owners .exit)) (now (ends .exit)) (now (corners .exit))) r ⌝ }
+{
+    let number = fault(n, codes, levels, colours, labels, work, owners, ends, corners);
+    if number != 0 {
+        return Traced { number: number, regions: 0, cycles: 0, corners: 0 };
+    }
+    let numbered = regions::number(n, codes, levels, colours, labels, work);
+    let counts = outline(n, codes, levels, labels, work, owners, ends, corners);
+    Traced { number: 0, regions: numbered.regions, cycles: counts.cycles as u32, corners: counts.corners as u32 }
+}

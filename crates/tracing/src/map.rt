@@ -10,7 +10,7 @@ ghost use Rattle.blocks.specs.Filling.{RunFilled, RowsFilled};
 ghost use Rattle.tracing.specs.Filling.{raised, Fillable};
 
 // Gives the s entries from the place `from` on the value v.
-fn fill_run(map: &mut [u32], from: usize, s: usize, v: u32)
+pub(crate) fn fill_run(map: &mut [u32], from: usize, s: usize, v: u32)
     requires { ⌜ from + s ≤ length (now map) ⌝ }
     ensures { λ _. ⌜ RunFilled from s v (now (map .entry)) (now (map .exit)) ⌝ }
 {

@@ -1,5 +1,7 @@
 //! A second implementation of document 01, written from its words and apart from the proved code.
 
 pub mod blocks;
+pub mod outlines;
 pub mod paths;
 pub mod pgm;
+pub mod regions;

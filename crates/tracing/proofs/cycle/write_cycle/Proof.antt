@@ -27,7 +27,7 @@ slice-read-r : tie.Need-slice-read-r
 slice-read-r c = numbers (c .before .before .before .before .pre) (c .before .side .ensures) .inside
 
 mul-walk : tie.Need-mul-walk
-mul-walk c = omega (arith, numbers (c .before .before .before .before .before .pre) (c .before .before .side .ensures) .y-low)
+mul-walk c = let k = numbers (c .before .before .before .before .before .pre) (c .before .before .side .ensures) in omega (arith, k .y-low, k .x-low)
 
 add-walk : tie.Need-add-walk
 add-walk c = let k = numbers (c .before .before .before .before .before .pre) (c .before .before .side .ensures) in omega (arith, k .y-low, k .x-low)

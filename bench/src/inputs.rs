@@ -1,0 +1,125 @@
+//! Pictures of one kind and one n, the answers of both sides on them, and the times.
+
+use crate::pictures::Kind;
+use crate::sides::{Blocks, Lists, Side, LIBRARY, PLAIN};
+use crate::timing::{compare, Times};
+use std::cell::RefCell;
+use std::hint::black_box;
+
+/// A raster with its block list.
+struct Input {
+    raster: Vec<u8>,
+    codes: Vec<u32>,
+    levels: Vec<u8>,
+    colours: Vec<u8>,
+}
+
+impl Input {
+    fn new(kind: &Kind, n: u32, seed: u64) -> Input {
+        let raster = (kind.raster)(n, seed);
+        let whole = raster.len();
+        let (mut codes, mut levels, mut colours) = (vec![0; whole], vec![0; whole], vec![0; whole]);
+        let written = (PLAIN.blocks_from_raster)(n, &raster, &mut codes, &mut levels, &mut colours);
+        assert_eq!(written.number, 0, "{} has a block list", kind.name);
+        codes.truncate(written.count as usize);
+        levels.truncate(written.count as usize);
+        colours.truncate(written.count as usize);
+        Input { raster, codes, levels, colours }
+    }
+
+    fn blocks(&self) -> Blocks<'_> {
+        Blocks { codes: &self.codes, levels: &self.levels, colours: &self.colours }
+    }
+
+    /// The answers of check, number and trace on fresh lists, and every entry of the lists.
+    fn outlines(&self, n: u32, side: &Side) -> impl PartialEq {
+        let mut numbered = Lists::new(n, self.codes.len());
+        let mut traced = numbered.clone();
+        let check = (side.check)(n, self.blocks());
+        let number = (side.number)(n, self.blocks(), &mut numbered.labels, &mut numbered.work);
+        let trace = (side.trace)(n, self.blocks(), traced.lend());
+        (check, number, trace, numbered, traced)
+    }
+
+    /// The answers of both conversions on fresh lists, and every entry of the lists.
+    fn rasters(&self, n: u32, side: &Side) -> impl PartialEq {
+        let whole = self.raster.len();
+        let (mut codes, mut levels, mut colours, mut raster) =
+            (vec![9; whole], vec![9; whole], vec![9; whole], vec![9; whole]);
+        let merged = (side.blocks_from_raster)(n, &self.raster, &mut codes, &mut levels, &mut colours);
+        let painted = (side.raster_from_blocks)(n, self.blocks(), &mut raster);
+        (merged, painted, codes, levels, colours, raster)
+    }
+}
+
+/// As many pictures of one kind and one n as have 65,536 pixels in all. One small picture alone, called again and again,
+/// would be learnt by heart by the processor's branch predictor.
+pub struct Inputs {
+    n: u32,
+    inputs: Vec<Input>,
+}
+
+impl Inputs {
+    pub fn new(kind: &Kind, n: u32) -> Inputs {
+        Inputs { n, inputs: (0..65_536u64 >> (2 * n)).map(|seed| Input::new(kind, n, seed)).collect() }
+    }
+
+    /// The blocks of the first picture.
+    pub fn blocks(&self) -> usize {
+        self.inputs[0].codes.len()
+    }
+
+    pub fn equal_outlines(&self) -> bool {
+        self.inputs.iter().all(|input| input.outlines(self.n, &LIBRARY) == input.outlines(self.n, &PLAIN))
+    }
+
+    pub fn equal_rasters(&self) -> bool {
+        self.inputs.iter().all(|input| input.rasters(self.n, &LIBRARY) == input.rasters(self.n, &PLAIN))
+    }
+
+    /// The times of a job for one picture.
+    fn time(&self, mut job: impl FnMut(&Side, &Input)) -> Times {
+        let job = RefCell::new(|side: &Side| self.inputs.iter().for_each(|input| job(side, input)));
+        compare(|| job.borrow_mut()(&LIBRARY), || job.borrow_mut()(&PLAIN)).of_one_in(self.inputs.len())
+    }
+
+    /// Lists for every picture.
+    fn lists(&self) -> Lists {
+        Lists::new(self.n, 1 << (2 * self.n))
+    }
+
+    pub fn time_check(&self) -> Times {
+        self.time(|side, input| {
+            black_box((side.check)(self.n, input.blocks()));
+        })
+    }
+
+    pub fn time_number(&self) -> Times {
+        let mut lists = self.lists();
+        self.time(|side, input| {
+            black_box((side.number)(self.n, input.blocks(), &mut lists.labels, &mut lists.work));
+        })
+    }
+
+    pub fn time_trace(&self) -> Times {
+        let mut lists = self.lists();
+        self.time(|side, input| {
+            black_box((side.trace)(self.n, input.blocks(), lists.lend()));
+        })
+    }
+
+    pub fn time_merge(&self) -> Times {
+        let whole = 1 << (2 * self.n);
+        let (mut codes, mut levels, mut colours) = (vec![0; whole], vec![0; whole], vec![0; whole]);
+        self.time(|side, input| {
+            black_box((side.blocks_from_raster)(self.n, &input.raster, &mut codes, &mut levels, &mut colours));
+        })
+    }
+
+    pub fn time_paint(&self) -> Times {
+        let mut raster = vec![0; 1 << (2 * self.n)];
+        self.time(|side, input| {
+            black_box((side.raster_from_blocks)(self.n, input.blocks(), &mut raster));
+        })
+    }
+}

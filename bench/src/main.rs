@@ -1,0 +1,54 @@
+//! Times the proved library against a plain Rust implementation of the same job, on the same pictures in one run.
+
+#[path = "../../samples/dial.rs"]
+mod dial;
+mod inputs;
+#[path = "../../examples/nettlestair.rs"]
+mod nettlestair;
+mod pictures;
+mod plain;
+mod random;
+mod report;
+mod sides;
+mod timing;
+
+use std::process::ExitCode;
+
+const HELP: &str = "\
+usage: cargo run --release --offline --manifest-path bench/Cargo.toml [-- MODE]
+
+Times the proved library (target/staticlib/libexports.a) against a plain Rust implementation of the same job.
+
+  outlines   check, number and trace at n = 8, and how the time of trace grows from n = 4 to n = 8
+  rasters    blocks_from_raster and raster_from_blocks, the same way
+  all        both (without MODE)
+
+The status is 1 if the answers of the two differ anywhere, else 0, whatever the times.
+";
+
+fn main() -> ExitCode {
+    let mode = std::env::args().nth(1).unwrap_or("all".to_string());
+    let reports: &[fn() -> bool] = match mode.as_str() {
+        "outlines" => &[report::outlines],
+        "rasters" => &[report::rasters],
+        "all" => &[report::outlines, report::rasters],
+        "help" | "--help" | "-h" => {
+            print!("{HELP}");
+            return ExitCode::SUCCESS;
+        }
+        other => {
+            eprint!("there is no mode {other}\n\n{HELP}");
+            return ExitCode::from(2);
+        }
+    };
+    report::preface();
+    let mut equal = true;
+    for report in reports {
+        equal &= report();
+    }
+    if equal {
+        ExitCode::SUCCESS
+    } else {
+        ExitCode::FAILURE
+    }
+}

@@ -1,0 +1,100 @@
+//! The pictures: rasters of side 2^n, the same on every run. A kind has different pictures for different seeds, but for the
+//! regular ones.
+
+use crate::dial;
+use crate::random::Random;
+
+/// A kind of picture: its name, and its raster for n and a seed.
+pub struct Kind {
+    pub name: &'static str,
+    pub raster: fn(u32, u64) -> Vec<u8>,
+}
+
+pub const KINDS: [Kind; 9] = [
+    Kind { name: "noise of 2 colours", raster: |n, seed| noise(n, 2, seed) },
+    Kind { name: "noise of 256 colours", raster: |n, seed| noise(n, 256, seed) },
+    Kind { name: "blobs", raster: blobs },
+    Kind { name: "rings", raster: rings },
+    Kind { name: "checkerboard", raster: |n, _| checkerboard(n) },
+    Kind { name: "spiral", raster: |n, _| spiral(n) },
+    Kind { name: "comb", raster: |n, _| comb(n) },
+    Kind { name: "one colour", raster: |n, _| vec![7; 1 << (2 * n)] },
+    Kind { name: "clock dial", raster: clock },
+];
+
+/// The raster whose pixel (x, y) has the colour `colour(x, y)`.
+fn drawn(n: u32, colour: impl Fn(usize, usize) -> u8) -> Vec<u8> {
+    let side = 1 << n;
+    (0..side * side).map(|i| colour(i % side, i / side)).collect()
+}
+
+fn noise(n: u32, colours: usize, seed: u64) -> Vec<u8> {
+    let mut random = Random::new(seed);
+    (0..1 << (2 * n)).map(|_| random.below(colours) as u8).collect()
+}
+
+/// Discs of five colours laid over one another, larger in a larger picture.
+fn blobs(n: u32, seed: u64) -> Vec<u8> {
+    let side = 1 << n;
+    let mut random = Random::new(seed);
+    let mut raster = vec![0; side * side];
+    for _ in 0..150 {
+        let (x, y) = (random.below(side), random.below(side));
+        let (radius, colour) = (1 + random.below(side / 8), random.below(5) as u8);
+        for (i, pixel) in raster.iter_mut().enumerate() {
+            let (dx, dy) = ((i % side).abs_diff(x), (i / side).abs_diff(y));
+            if dx * dx + dy * dy <= radius * radius {
+                *pixel = colour;
+            }
+        }
+    }
+    raster
+}
+
+/// Rings two pixels wide around a place near the middle, of two colours by turns.
+fn rings(n: u32, seed: u64) -> Vec<u8> {
+    let mut random = Random::new(seed);
+    let mut near_the_middle = || (1 << (n - 2)) + random.below(1 << (n - 1));
+    let (middle_x, middle_y) = (near_the_middle(), near_the_middle());
+    drawn(n, |x, y| {
+        let (dx, dy) = (x.abs_diff(middle_x), y.abs_diff(middle_y));
+        ((dx * dx + dy * dy).isqrt() / 2 % 2) as u8
+    })
+}
+
+/// A clock face at some time.
+fn clock(n: u32, seed: u64) -> Vec<u8> {
+    dial::clock(1 << n, Random::new(seed).below(12 * 60 * 60) as u32)
+}
+
+fn checkerboard(n: u32) -> Vec<u8> {
+    drawn(n, |x, y| ((x + y) % 2) as u8)
+}
+
+/// A line one pixel wide that winds from the northwest corner inward, with a gap of one pixel between its turns.
+fn spiral(n: u32) -> Vec<u8> {
+    let side: i32 = 1 << n;
+    let mut raster = vec![0; (side * side) as usize];
+    let inside = |x: i32, y: i32| (0..side).contains(&x) && (0..side).contains(&y);
+    let (mut x, mut y, mut dx, mut dy) = (0, 0, 1, 0);
+    loop {
+        raster[(y * side + x) as usize] = 1;
+        // straight on while the next two pixels are free (the second may lie outside), else right, if it is free there
+        let drawn = |x: i32, y: i32| inside(x, y) && raster[(y * side + x) as usize] == 1;
+        let free =
+            |dx: i32, dy: i32| inside(x + dx, y + dy) && !drawn(x + dx, y + dy) && !drawn(x + 2 * dx, y + 2 * dy);
+        if !free(dx, dy) {
+            (dx, dy) = (-dy, dx);
+            if !free(dx, dy) {
+                return raster;
+            }
+        }
+        (x, y) = (x + dx, y + dy);
+    }
+}
+
+/// Teeth one pixel wide, joined along the south edge.
+fn comb(n: u32) -> Vec<u8> {
+    let last = (1 << n) - 1;
+    drawn(n, |x, y| (x % 2 == 0 || y == last) as u8)
+}

@@ -1,0 +1,115 @@
+//! What is timed and how it is told.
+
+use crate::inputs::Inputs;
+use crate::pictures::KINDS;
+use crate::timing::{Times, SAMPLES};
+
+const GOAL_RATIO: f64 = 1.0;
+const DEFECT_RATIO: f64 = 1.5;
+const GOAL_GROWTH: f64 = 4.2;
+
+/// The sides for which growth is told: 2^4 to 2^8.
+const SIZES: std::ops::RangeInclusive<u32> = 4..=8;
+
+pub fn preface() {
+    println!("The proved library against plain Rust: one machine, one run, the same pictures, both built for release.");
+    println!("A time is processor time, the median of {SAMPLES} samples, the two sides taken by turns.");
+    println!("All lists are lent by the caller, the same ones to both sides; neither side allocates anything else.");
+    println!("The lists are not cleared before a call: they hold what the call before left there.");
+    println!(
+        "ratio: library / plain; goal at most {GOAL_RATIO:.1} (*: above {GOAL_RATIO:.1}, **: above {DEFECT_RATIO:.1})"
+    );
+}
+
+/// What stands above the columns of one function.
+const HEADING: &str = "  library     plain  ratio  ";
+
+/// A mark for a ratio above the goal.
+fn mark(ratio: f64) -> &'static str {
+    if ratio > DEFECT_RATIO {
+        "**"
+    } else if ratio > GOAL_RATIO {
+        "*"
+    } else {
+        ""
+    }
+}
+
+/// Both times in microseconds and their ratio.
+fn columns(times: Times) -> String {
+    let ratio = times.ratio();
+    format!("{:>9.1} {:>9.1} {ratio:>6.2}{:<2}", 1e6 * times.library, 1e6 * times.plain, mark(ratio))
+}
+
+/// Check, number and trace at n = 8, then how the time of trace grows. Says whether all answers were equal.
+pub fn outlines() -> bool {
+    let mut equal = true;
+    let mut traces = Vec::new();
+    println!("\nn = 8, microseconds a picture (number runs the check; trace runs the check and the numbering)");
+    println!("{:<28} | {:^28} | {:^28} | {:^28} |", "", "check", "number", "trace");
+    println!("{:<21}{:>7} | {HEADING} | {HEADING} | {HEADING} | answers", "", "blocks");
+    for kind in &KINDS {
+        let sizes: Vec<Inputs> = SIZES.map(|n| Inputs::new(kind, n)).collect();
+        let same = sizes.iter().all(Inputs::equal_outlines);
+        let times: Vec<Times> = sizes.iter().map(Inputs::time_trace).collect();
+        let largest = &sizes[sizes.len() - 1];
+        println!(
+            "{:<21}{:>7} | {} | {} | {} | {}",
+            kind.name,
+            largest.blocks(),
+            columns(largest.time_check()),
+            columns(largest.time_number()),
+            columns(times[times.len() - 1]),
+            if same { "equal" } else { "DIFFERENT" }
+        );
+        equal &= same;
+        traces.push((kind.name, times));
+    }
+    growth(&traces);
+    equal
+}
+
+/// How the time of trace grows from n = 4 to n = 8: the factor of each level and the mean factor.
+fn growth(traces: &[(&str, Vec<Times>)]) {
+    println!("\nHow the time of trace grows with each level, n = 4 to n = 8; goal at most {GOAL_GROWTH} (*: above)");
+    println!("At each n as many pictures as have 65,536 pixels in all; the time of one is the mean.");
+    println!("{:<21}| {:^45} | {:^45}", "", "library", "plain");
+    let levels: String = ["4 to 5", "5 to 6", "6 to 7", "7 to 8", "mean"].map(|level| format!("{level:>7}  ")).concat();
+    println!("{:<21}| {levels} | {levels}", "");
+    for (name, times) in traces {
+        let library: Vec<f64> = times.iter().map(|times| times.library).collect();
+        let plain: Vec<f64> = times.iter().map(|times| times.plain).collect();
+        println!("{name:<21}| {} | {}", factors(&library), factors(&plain));
+    }
+}
+
+fn factors(times: &[f64]) -> String {
+    let levels = times.len() - 1;
+    let mean = (times[levels] / times[0]).powf(1.0 / levels as f64);
+    let each = times.windows(2).map(|pair| pair[1] / pair[0]);
+    each.chain([mean])
+        .map(|factor| format!("{factor:>7.2}{:<2}", if factor > GOAL_GROWTH { "*" } else { "" }))
+        .collect()
+}
+
+/// Raster to blocks and back at n = 8. Says whether all answers were equal.
+pub fn rasters() -> bool {
+    let mut equal = true;
+    println!("\nn = 8, microseconds a picture");
+    println!("{:<28} | {:^28} | {:^28} |", "", "blocks_from_raster", "raster_from_blocks");
+    println!("{:<21}{:>7} | {HEADING} | {HEADING} | answers", "", "blocks");
+    for kind in &KINDS {
+        let same = SIZES.map(|n| Inputs::new(kind, n)).all(|inputs| inputs.equal_rasters());
+        let largest = Inputs::new(kind, *SIZES.end());
+        println!(
+            "{:<21}{:>7} | {} | {} | {}",
+            kind.name,
+            largest.blocks(),
+            columns(largest.time_merge()),
+            columns(largest.time_paint()),
+            if same { "equal" } else { "DIFFERENT" }
+        );
+        equal &= same;
+    }
+    equal
+}

@@ -1,0 +1,98 @@
+//! The two sides that are timed, and what is lent to both.
+
+use crate::nettlestair::{Numbered, Traced, Written};
+use crate::{nettlestair, plain};
+
+/// A block list.
+#[derive(Clone, Copy)]
+pub struct Blocks<'a> {
+    pub codes: &'a [u32],
+    pub levels: &'a [u8],
+    pub colours: &'a [u8],
+}
+
+impl<'a> Blocks<'a> {
+    /// Code, level and colour of each block.
+    pub fn iter(self) -> impl Iterator<Item = (u32, u8, u8)> + 'a {
+        let parts = self.codes.iter().zip(self.levels).zip(self.colours);
+        parts.map(|((&code, &level), &colour)| (code, level, colour))
+    }
+}
+
+/// What a tracing is lent besides the block list.
+pub struct Lent<'a> {
+    pub labels: &'a mut [u32],
+    pub work: &'a mut [u32],
+    pub owners: &'a mut [u32],
+    pub ends: &'a mut [u32],
+    pub corners: &'a mut [u32],
+}
+
+/// An implementation of document 01.
+#[allow(clippy::type_complexity)]
+pub struct Side {
+    pub check: fn(u32, Blocks) -> u32,
+    pub number: fn(u32, Blocks, &mut [u32], &mut [u32]) -> Numbered,
+    pub trace: fn(u32, Blocks, Lent) -> Traced,
+    pub blocks_from_raster: fn(u32, &[u8], &mut [u32], &mut [u8], &mut [u8]) -> Written,
+    pub raster_from_blocks: fn(u32, Blocks, &mut [u8]) -> Written,
+}
+
+pub const LIBRARY: Side = Side {
+    check: |n, blocks| nettlestair::check(n, blocks.codes, blocks.levels, blocks.colours),
+    number: |n, blocks, labels, work| nettlestair::number(n, blocks.codes, blocks.levels, blocks.colours, labels, work),
+    trace: |n, blocks, lent| {
+        let Blocks { codes, levels, colours } = blocks;
+        let Lent { labels, work, owners, ends, corners } = lent;
+        nettlestair::trace(n, codes, levels, colours, labels, work, owners, ends, corners)
+    },
+    blocks_from_raster: nettlestair::blocks_from_raster,
+    raster_from_blocks: |n, blocks, raster| {
+        nettlestair::raster_from_blocks(n, blocks.codes, blocks.levels, blocks.colours, raster)
+    },
+};
+
+pub const PLAIN: Side = Side {
+    check: plain::check,
+    number: plain::number,
+    trace: plain::trace,
+    blocks_from_raster: plain::blocks_from_raster,
+    raster_from_blocks: plain::raster_from_blocks,
+};
+
+/// The lists that are lent, each of exactly its need. Both sides are lent the same ones.
+#[derive(Clone, PartialEq, Eq)]
+pub struct Lists {
+    pub labels: Vec<u32>,
+    pub work: Vec<u32>,
+    pub owners: Vec<u32>,
+    pub ends: Vec<u32>,
+    pub corners: Vec<u32>,
+}
+
+impl Lists {
+    /// Lists for a block list of `blocks` blocks in an image of side 2^n, each entry with some content that tells if it was
+    /// left as it was.
+    pub fn new(n: u32, blocks: usize) -> Lists {
+        let whole = 1 << (2 * n);
+        let list =
+            |length: usize, seed: u32| (0..length as u32).map(|i| (i ^ seed).wrapping_mul(0x9E37_79B1)).collect();
+        Lists {
+            labels: list(blocks, 1),
+            work: list(2 * whole, 2),
+            owners: list(whole, 3),
+            ends: list(whole, 4),
+            corners: list(4 * whole, 5),
+        }
+    }
+
+    pub fn lend(&mut self) -> Lent<'_> {
+        Lent {
+            labels: &mut self.labels,
+            work: &mut self.work,
+            owners: &mut self.owners,
+            ends: &mut self.ends,
+            corners: &mut self.corners,
+        }
+    }
+}

@@ -1,0 +1,126 @@
+-- An accepted tracing: the numbering of the regions, then the listing of their outlines, give what the tracing promises.
+use mathlib.Core.Path.{_≡_, refl, sym, ap, ap₂, _∙_, subst}
+use mathlib.Core.List.{List}
+use Prim.Native.Nat.{ℕ, _*_, _^_, _≤_, _<_}
+use native.Mathlib.Omega.{arith}
+use lib.ListN.{length, getD, replicate, length-replicate, getD-replicate}
+use Rattle.sequences.specs.Cases.{ifAccepted, written-accepted}
+use Rattle.sequences.specs.Over.{over, length-over, over-inside}
+use Rattle.sequences.specs.Powers.{pow4-mono}
+use Rattle.quadtree.specs.Blocks.{blocks, paint}
+use Rattle.quadtree.specs.Number.{number}
+use Rattle.quadtree.specs.Accepted.{number-zero}
+use Rattle.components.specs.Numbers.{numbers, labels, regions}
+use Rattle.components.specs.Numbered.{number-below-regions}
+use Rattle.regions.specs.Promise.{Numbering, numberingNumber, labelsWritten, zerosWritten, regionsCounted, countIfAccepted, count-accepted, none}
+use Rattle.regions.specs.declared.Numbered.{Numbered}
+use Rattle.grid.specs.Listing.{Cycle, listing, owners, ends, allCorners, cycleCount, cornerCount}
+use Rattle.grid.specs.Bounds.{cycles-fit, corner-count-fits}
+use Rattle.links.specs.OverTwice.{over-twice}
+use Rattle.links.specs.FirstCycles.{all-regions}
+use Rattle.links.specs.Relabelled.{labels-room, relabelled, relabelled-paints, few-regions}
+use Rattle.tracing.specs.Outlining.{OutlinesAsked, OutlinesTold}
+use Rattle.tracing.specs.Tracing.{Lent, lent, tracingNumber, outlinesOf, cyclesWritten, labelsLeft, zerosLeft, regionsListed, Tracing, Needs, needs-met}
+use Rattle.tracing.specs.declared.listing.Counts.{Counts}
+use Rattle.tracing.specs.declared.Traced.{Traced}
+
+module _ (n : ℕ) (cs ls ks : List ℕ) (b : Lent) {k : ℕ} (asked : k ≡ tracingNumber n cs ls ks b) (zero-number : k ≡ 0) where
+  number-is : tracingNumber n cs ls ks b ≡ 0
+  number-is = sym asked ∙ zero-number
+
+  met : Needs n cs ls ks b
+  met = needs-met n cs ls ks b number-is
+
+  -- ---- after the numbering
+
+  module _ {labels₁ work₁ : List ℕ} {numbered : Numbered} (done : Numbering n cs ls ks (b .labelList) (b .workList) labels₁ work₁ numbered) where
+    accepted : numberingNumber n cs ls ks (b .labelList) (b .workList) ≡ 0
+    accepted = none n cs ls ks (b .labelList) (b .workList) (met .accepted) (met .for-labels) (met .for-work)
+
+    labels-are : labels₁ ≡ over (labels n (blocks cs ls ks)) (b .labelList)
+    unfolding labelsWritten
+    labels-are =
+        done .in-labels
+        ∙ ap (λ (l : List ℕ). over l (b .labelList)) (written-accepted (numberingNumber n cs ls ks (b .labelList) (b .workList)) (labels n (blocks cs ls ks)) accepted)
+
+    work-is : work₁ ≡ over (replicate (2 * 4 ^ n) 0) (b .workList)
+    unfolding zerosWritten
+    work-is =
+        done .in-work
+        ∙ ap (λ (l : List ℕ). over l (b .workList)) (written-accepted (numberingNumber n cs ls ks (b .labelList) (b .workList)) (replicate (2 * 4 ^ n) 0) accepted)
+
+    regions-are : numbered .regions ≡ regions n (paint (blocks cs ls ks))
+    unfolding regionsCounted
+    regions-are =
+        ap (λ (r : Numbered). r .regions) (done .answer)
+        ∙ count-accepted (numberingNumber n cs ls ks (b .labelList) (b .workList)) (regions n (paint (blocks cs ls ks))) accepted
+
+    zeros-long : length {A = ℕ} (replicate (2 * 4 ^ n) 0) ≡ 2 * 4 ^ n
+    zeros-long = length-replicate (2 * 4 ^ n) 0
+
+    pub outlines-asked : OutlinesAsked n cs ls labels₁ work₁ (b .ownerList) (b .endList) (b .cornerList)
+    outlines-asked =
+        subst (λ (l : List ℕ). OutlinesAsked n cs ls l work₁ (b .ownerList) (b .endList) (b .cornerList)) (sym labels-are)
+        (record {
+          labelled = relabelled n cs ls ks (met .accepted) (b .labelList) (met .for-labels);
+          equal = number-zero n cs ls ks (met .accepted) .equal-levels;
+          enough = labels-room n cs ls ks (met .accepted) (b .labelList) (met .for-labels);
+          zeros = λ j h.
+              ap (λ (l : List ℕ). getD l j 0) work-is
+              ∙ over-inside (replicate (2 * 4 ^ n) 0) (b .workList) j (omega (arith, zeros-long)) ∙ getD-replicate (2 * 4 ^ n) j 0 0 h;
+          for-work =
+              omega (arith, ap length work-is, length-over (replicate (2 * 4 ^ n) 0) (b .workList) (omega (arith, zeros-long, met .for-work)), met .for-work);
+          for-owners = met .for-owners;
+          for-ends = met .for-ends;
+          for-corners = met .for-corners;
+        })
+
+    -- ---- after the listing
+
+    module _ {work₂ owners₂ ends₂ corners₂ : List ℕ} {counts : Counts}
+      (told : OutlinesTold n cs ls labels₁ work₁ (b .ownerList) (b .endList) (b .cornerList) work₂ owners₂ ends₂ corners₂ counts) where
+      cycles-are : listing n (paint (blocks cs ls labels₁)) (4 ^ n) ≡ outlinesOf n cs ls ks
+      unfolding outlinesOf
+      cycles-are =
+          ap (λ (l : List ℕ). listing n (paint (blocks cs ls l)) (4 ^ n)) labels-are
+          ∙ ap (λ (m : List ℕ). listing n m (4 ^ n)) (relabelled-paints n cs ls ks (met .accepted) (b .labelList) (met .for-labels))
+          ∙ all-regions n (numbers n (paint (blocks cs ls ks))) (regions n (paint (blocks cs ls ks)))
+          (number-below-regions n (paint (blocks cs ls ks))) (few-regions n cs ls ks (met .accepted) (b .labelList) (met .for-labels))
+
+      small : 4 ^ n ≤ 65536
+      small = pow4-mono (number-zero n cs ls ks (met .accepted) .small)
+
+      pub cycles-small : counts .cycles ≤ 65536
+      cycles-small =
+          omega (arith, told .cycles, cycles-fit n (paint (blocks cs ls labels₁)) (4 ^ n), small)
+
+      pub corners-small : counts .corners ≤ 262144
+      corners-small =
+          omega (arith, told .corners, corner-count-fits n (paint (blocks cs ls labels₁)) (4 ^ n) (number-zero n cs ls ks (met .accepted) .small), small)
+
+      written : cyclesWritten n cs ls ks b ≡ listing n (paint (blocks cs ls labels₁)) (4 ^ n)
+      unfolding cyclesWritten
+      written = written-accepted (tracingNumber n cs ls ks b) (outlinesOf n cs ls ks) number-is ∙ sym cycles-are
+
+      pub traced : Tracing n cs ls ks b (lent labels₁ work₂ owners₂ ends₂ corners₂)
+          (record { number = 0; regions = numbered .regions; cycles = counts .cycles; corners = counts .corners })
+      unfolding labelsLeft zerosLeft regionsListed
+      traced = record {
+        answer = λ i. record {
+          number = sym number-is i;
+          regions = (regions-are ∙ sym (count-accepted (tracingNumber n cs ls ks b) (regions n (paint (blocks cs ls ks))) number-is)) i;
+          cycles = (told .cycles ∙ ap cycleCount (sym written)) i;
+          corners = (told .corners ∙ ap cornerCount (sym written)) i;
+        };
+        in-labels =
+            labels-are
+            ∙ ap (λ (l : List ℕ). over l (b .labelList)) (sym (written-accepted (tracingNumber n cs ls ks b) (labels n (blocks cs ls ks)) number-is));
+        in-work =
+            told .in-work
+            ∙ ap (over (replicate (2 * 4 ^ n) 0)) work-is
+            ∙ over-twice (replicate (2 * 4 ^ n) 0) (replicate (2 * 4 ^ n) 0) (b .workList) (omega arith)
+            ∙ ap (λ (l : List ℕ). over l (b .workList)) (sym (written-accepted (tracingNumber n cs ls ks b) (replicate (2 * 4 ^ n) 0) number-is));
+        in-owners = told .in-owners ∙ ap (λ (c : List Cycle). over (owners c) (b .ownerList)) (sym written);
+        in-ends = told .in-ends ∙ ap (λ (c : List Cycle). over (ends c) (b .endList)) (sym written);
+        in-corners = told .in-corners ∙ ap (λ (c : List Cycle). over (allCorners c) (b .cornerList)) (sym written);
+      }

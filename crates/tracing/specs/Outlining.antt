@@ -1,0 +1,167 @@
+-- From the labels of the blocks to all outlines: the chains, the map, the listing, and the work list cleared.
+use mathlib.Core.Path.{_≡_, refl, sym, ap, _∙_, subst}
+use mathlib.Core.Logic.{inl, inr}
+use mathlib.Core.List.{List, [], _∷_}
+use Prim.Native.Nat.{ℕ, zero, _+_, _-_, _*_, _^_, _≤_, _<_}
+use native.Mathlib.Decide.{decLt}
+use native.Mathlib.Omega.{arith}
+use lib.ListN.{length, take, getD, replicate, length-replicate, getD-replicate}
+use lib.Seq.{ext-getD}
+use Rattle.sequences.specs.Over.{over, over-none, length-over, over-inside, over-beyond}
+use Rattle.sequences.specs.Powers.{pow4-pos, pow4-mono}
+use Rattle.location.specs.Levels.{pixelsOf, pixels-are-power}
+use Rattle.quadtree.specs.Blocks.{Block, blocks, pixels, paint}
+use Rattle.quadtree.specs.Raster.{inRows}
+use Rattle.staircase.specs.FirstBlocks.{all-pixels}
+use Rattle.blocks.specs.Filling.{RunFilled}
+use Rattle.components.specs.Holders.{blockAt}
+use Rattle.grid.specs.Listing.{Cycle, listing, owners, ends, allCorners, cycleCount, cornerCount}
+use Rattle.grid.specs.Bounds.{cycles-fit, corner-count-fits}
+use Rattle.links.specs.Linking.{Linkable, Linked}
+use Rattle.links.specs.Ahead.{allStarts, marks-none}
+use Rattle.links.specs.FirstCycles.{firstCycles, first-none, length-first}
+use Rattle.links.specs.Forward.{Labelled}
+use Rattle.links.specs.Relabelled.{length-as, colour-as}
+use Rattle.tracing.specs.Mapped.{numsOf, Mapped, Marked}
+use Rattle.tracing.specs.Filling.{raised, Fillable, MapFilled, map-filled}
+use Rattle.tracing.specs.Progress.{State, state, Room, Listed}
+use Rattle.tracing.specs.Going.{Going}
+use Rattle.tracing.specs.Regions.{AllTold}
+use Rattle.tracing.specs.declared.listing.Counts.{Counts}
+
+-- A list of blocks with labels, a work list whose first 2 times 4^n entries are 0, and room for all cycles.
+pub record OutlinesAsked (n : ℕ) (codes levels labels work owned ended points : List ℕ) : Type 0 where
+  pub labelled : Labelled n (blocks codes levels labels)
+  pub equal : length codes ≡ length levels
+  pub enough : length codes ≤ length labels
+  pub zeros : (j : ℕ) → j < 2 * 4 ^ n → getD work j 0 ≡ 0
+  pub for-work : 2 * 4 ^ n ≤ length work
+  pub for-owners : 4 ^ n ≤ length owned
+  pub for-ends : 4 ^ n ≤ length ended
+  pub for-corners : 4 * 4 ^ n ≤ length points
+
+-- All cycles of the labels' image stand in the lists, and the work list is cleared.
+pub record OutlinesTold (n : ℕ) (codes levels labels work owned ended points work′ owned′ ended′ points′ : List ℕ) (r : Counts) : Type 0 where
+  pub in-owners : owned′ ≡ over (owners (listing n (paint (blocks codes levels labels)) (4 ^ n))) owned
+  pub in-ends : ended′ ≡ over (ends (listing n (paint (blocks codes levels labels)) (4 ^ n))) ended
+  pub in-corners : points′ ≡ over (allCorners (listing n (paint (blocks codes levels labels)) (4 ^ n))) points
+  pub in-work : work′ ≡ over (replicate (2 * 4 ^ n) 0) work
+  pub cycles : r .cycles ≡ cycleCount (listing n (paint (blocks codes levels labels)) (4 ^ n))
+  pub corners : r .corners ≡ cornerCount (listing n (paint (blocks codes levels labels)) (4 ^ n))
+
+blocks-at-most-pixels : (bs : List Block) → length bs ≤ pixels bs
+unfolding pixels
+blocks-at-most-pixels [] = omega arith
+blocks-at-most-pixels (b ∷ bs) = omega (arith, blocks-at-most-pixels bs, pow4-pos (b .level))
+
+module _ {n : ℕ} {codes levels labels work owned ended points : List ℕ} (ok : OutlinesAsked n codes levels labels work owned ended points) where
+  abbrev bs : List Block
+  bs = blocks codes levels labels
+
+  abbrev nums : List ℕ
+  nums = paint (blocks codes levels labels)
+
+  long : length (blocks codes levels labels) ≡ length codes
+  long = length-as codes levels labels (ok .equal) (ok .enough)
+
+  few : length codes ≤ 4 ^ n
+  few = omega (arith, long, blocks-at-most-pixels bs, all-pixels n bs (ok .labelled .covering))
+
+  pub whole-small : 4 ^ n ≤ 65536
+  whole-small = pow4-mono (ok .labelled .small)
+
+  module _ {whole : ℕ} (size : whole ≡ pixelsOf n) where
+    whole-is : whole ≡ 4 ^ n
+    whole-is = size ∙ pixels-are-power n (omega (arith, ok .labelled .small))
+
+    pub whole-low : whole ≤ 65536
+    whole-low = omega (arith, whole-is, whole-small)
+
+    pub linkable : Linkable whole (length codes) labels work
+    linkable = record {
+      small = whole-low;
+      few = omega (arith, whole-is, few);
+      labels = ok .enough;
+      long = omega (arith, whole-is, ok .for-work);
+      known = λ i h. omega (arith, whole-is, colour-as codes levels labels (ok .equal) (ok .enough) i h, ok .labelled .known i (omega (arith, long)));
+      blank = λ r h. ok .zeros r (omega (arith, whole-is));
+    }
+
+    module _ {linked : List ℕ} (l : Linked whole (length codes) labels work linked) where
+      pub fillable : Fillable n codes levels labels linked
+      fillable = record {
+        levels-too = ok .equal;
+        labels-too = ok .enough;
+        labelled = ok .labelled;
+        enough = omega (arith, l .long, ok .for-work);
+      }
+
+      module _ {mapped : List ℕ} (e : mapped ≡ over (inRows n (raised (paint (blocks codes levels labels)))) linked) where
+        filled : MapFilled n (paint (blocks codes levels labels)) linked mapped
+        filled = map-filled fillable e
+
+        pub going : Going n codes levels labels (state mapped owned ended points 0 0)
+        unfolding owners ends allCorners cornerCount firstCycles
+        going = record {
+          labelled = ok .labelled;
+          equal = ok .equal;
+          enough = ok .enough;
+          few = few;
+          long = omega (arith, filled .same-length, l .long, ok .for-work);
+          links = λ i h.
+              filled .beyond (4 ^ n + i) (omega arith)
+              ∙ ap (λ (w : ℕ). getD linked (w + i) 0) (sym whole-is) ∙ l .nexts i h;
+          room = record { small = ok .labelled .small; for-owners = ok .for-owners; for-ends = ok .for-ends; for-corners = ok .for-corners };
+          listed = record {
+            few = omega arith;
+            in-owners = sym (over-none owned);
+            in-ends = sym (over-none ended);
+            in-corners = sym (over-none points);
+            corners-so-far = refl;
+            mapped = filled .mapped;
+            numbers = filled .numbers;
+            marks = marks-none n nums (Marked n mapped) (filled .unmarked);
+            long = refl;
+            beyond = λ j h. refl;
+          };
+        }
+
+        module _ {work′ owned′ ended′ points′ : List ℕ} {cycles at : ℕ}
+          (t : AllTold n codes levels labels (state mapped owned ended points 0 0) (state work′ owned′ ended′ points′ cycles at)) where
+          pub clear-room : 0 + 2 * whole ≤ length work′
+          clear-room = omega (arith, whole-is, t .listed .long, filled .same-length, l .long, ok .for-work)
+
+          pub told : {cleared : List ℕ} → RunFilled 0 (2 * whole) 0 work′ cleared
+              → OutlinesTold n codes levels labels work owned ended points cleared owned′ ended′ points′ (record { cycles = cycles; corners = at })
+          unfolding cycleCount cornerCount
+          told {cleared} r = record {
+            in-owners = t .listed .in-owners ∙ ap (λ (c : List Cycle). over (owners c) owned) (t .all);
+            in-ends = t .listed .in-ends ∙ ap (λ (c : List Cycle). over (ends c) ended) (t .all);
+            in-corners = t .listed .in-corners ∙ ap (λ (c : List Cycle). over (allCorners c) points) (t .all);
+            in-work = same;
+            cycles = sym (length-first n nums cycles (t .listed .few)) ∙ ap length (t .all);
+            corners = t .listed .corners-so-far ∙ ap (λ (c : List Cycle). length (allCorners c)) (t .all);
+          }
+            where
+              zeros : List ℕ
+              zeros = replicate (2 * 4 ^ n) 0
+
+              zeros-long : length zeros ≡ 2 * 4 ^ n
+              zeros-long = length-replicate (2 * 4 ^ n) 0
+
+              at-place : (j : ℕ) → Dec (j < 2 * 4 ^ n) → getD cleared j 0 ≡ getD (over zeros work) j 0
+              at-place j (yes h) =
+                  r .inside j (omega arith) (omega (arith, whole-is))
+                  ∙ sym (over-inside zeros work j (omega (arith, zeros-long)) ∙ getD-replicate (2 * 4 ^ n) j 0 0 h)
+              at-place j (no h) =
+                  r .outside j (inr (omega (arith, whole-is)))
+                  ∙ t .listed .beyond j (omega arith)
+                  ∙ filled .beyond j (omega arith)
+                  ∙ l .beyond j (omega (arith, whole-is))
+                  ∙ sym (over-beyond zeros work j (omega (arith, zeros-long)))
+
+              same : cleared ≡ over zeros work
+              same =
+                  ext-getD 0 cleared (over zeros work)
+                  (r .long ∙ t .listed .long ∙ filled .same-length ∙ l .long ∙ sym (length-over zeros work (omega (arith, zeros-long, ok .for-work))))
+                  (λ j h. at-place j (decLt j (2 * 4 ^ n)))

@@ -1,0 +1,244 @@
+-- What the tracing promises: the answer, and the later content of each lent list, whether it accepts or refuses.
+use mathlib.Core.Path.{_≡_, refl, sym, ap, ap₂, _∙_, subst}
+use mathlib.Core.Bool.{Bool, true, false, _||_}
+use mathlib.Core.List.{List, []}
+use Prim.Native.Nat.{ℕ, zero, suc, _*_, _^_, _≤_, _<_}
+use native.Mathlib.Decide.{decLt}
+use native.Mathlib.Omega.{arith}
+use lib.ListN.{length, replicate}
+use lib.Dec.{ltb}
+use borrow.Author.Tests.{lt-ltb, le-ltb}
+use Rattle.sequences.specs.Cases.{first, when, ifAccepted, first-some, first-none, first-zero, when-yes, when-no, when-zero, written-refused}
+use Rattle.sequences.specs.Over.{over, over-none}
+use Rattle.sequences.specs.Powers.{pow4-mono}
+use Rattle.location.specs.Levels.{pixelsOf, pixels-are-power}
+use Rattle.quadtree.specs.Blocks.{blocks, paint}
+use Rattle.quadtree.specs.Number.{number, numberWith}
+use Rattle.quadtree.specs.Accepted.{number-zero}
+use Rattle.components.specs.Numbers.{numbers, labels, regions}
+use Rattle.regions.specs.Promise.{countIfAccepted, count-refused}
+use Rattle.grid.specs.Listing.{Cycle, listing, owners, ends, allCorners, cycleCount, cornerCount}
+use Rattle.tracing.specs.declared.Traced.{Traced}
+
+-- "tracing is lent these and the owner, end and corner lists": the label and the work list, and those.
+pub record Lent : Type 0 where
+  pub labelList : List ℕ
+  pub workList : List ℕ
+  pub ownerList : List ℕ
+  pub endList : List ℕ
+  pub cornerList : List ℕ
+
+abbrev pub lent : List ℕ → List ℕ → List ℕ → List ℕ → List ℕ → Lent
+lent ls ws os es cs = record { labelList = ls; workList = ws; ownerList = os; endList = es; cornerList = cs }
+
+-- "Needs: labels, one a block. Owner and end lists, 4^n each. Corners, 4 times 4^n. Work list (32-bit), 2 times 4^n": one of the lists
+-- is shorter than its need, for `count` blocks (document 01, "When the answer is a number").
+unfoldable pub tooShort : ℕ → ℕ → Lent → Bool
+tooShort n count b =
+    ltb (length (b .labelList)) count
+    || (ltb (length (b .workList)) (2 * 4 ^ n) || (ltb (length (b .ownerList)) (4 ^ n) || (ltb (length (b .endList)) (4 ^ n) || ltb (length (b .cornerList)) (4 * 4 ^ n))))
+
+-- "Block lists: 1, 2, then per block in list order 3, 4, 5, then 6, 7, 8".
+unfoldable pub tracingNumber : ℕ → List ℕ → List ℕ → List ℕ → Lent → ℕ
+unfolding numberWith tooShort
+tracingNumber n cs ls ks b = numberWith (tooShort n (length cs) b) n cs ls ks
+
+-- All cycles of the image that a block list paints, as they are listed.
+unfoldable pub outlinesOf : ℕ → List ℕ → List ℕ → List ℕ → List Cycle
+unfolding listing numbers regions paint blocks
+outlinesOf n cs ls ks = listing n (numbers n (paint (blocks cs ls ks))) (regions n (paint (blocks cs ls ks)))
+
+-- What is written: all cycles, the labels, and zeros in the work list; nothing on a refusal.
+unfoldable pub cyclesWritten : ℕ → List ℕ → List ℕ → List ℕ → Lent → List Cycle
+unfolding ifAccepted tracingNumber outlinesOf
+cyclesWritten n cs ls ks b = ifAccepted (tracingNumber n cs ls ks b) (outlinesOf n cs ls ks)
+
+unfoldable pub labelsLeft : ℕ → List ℕ → List ℕ → List ℕ → Lent → List ℕ
+unfolding ifAccepted tracingNumber labels blocks
+labelsLeft n cs ls ks b = ifAccepted (tracingNumber n cs ls ks b) (labels n (blocks cs ls ks))
+
+unfoldable pub zerosLeft : ℕ → List ℕ → List ℕ → List ℕ → Lent → List ℕ
+unfolding ifAccepted tracingNumber
+zerosLeft n cs ls ks b = ifAccepted (tracingNumber n cs ls ks b) (replicate (2 * 4 ^ n) 0)
+
+unfoldable pub regionsListed : ℕ → List ℕ → List ℕ → List ℕ → Lent → ℕ
+unfolding countIfAccepted tracingNumber regions paint blocks
+regionsListed n cs ls ks b = countIfAccepted (tracingNumber n cs ls ks b) (regions n (paint (blocks cs ls ks)))
+
+-- The tracing, with the lent lists before and after.
+pub record Tracing (n : ℕ) (cs ls ks : List ℕ) (before after : Lent) (r : Traced) : Type 0 where
+  pub answer : r ≡ record {
+    number = tracingNumber n cs ls ks before;
+    regions = regionsListed n cs ls ks before;
+    cycles = cycleCount (cyclesWritten n cs ls ks before);
+    corners = cornerCount (cyclesWritten n cs ls ks before);
+  }
+  pub in-labels : after .labelList ≡ over (labelsLeft n cs ls ks before) (before .labelList)
+  pub in-work : after .workList ≡ over (zerosLeft n cs ls ks before) (before .workList)
+  pub in-owners : after .ownerList ≡ over (owners (cyclesWritten n cs ls ks before)) (before .ownerList)
+  pub in-ends : after .endList ≡ over (ends (cyclesWritten n cs ls ks before)) (before .endList)
+  pub in-corners : after .cornerList ≡ over (allCorners (cyclesWritten n cs ls ks before)) (before .cornerList)
+
+-- ---- cause by cause
+
+-- No cause applies.
+pub record Needs (n : ℕ) (cs ls ks : List ℕ) (b : Lent) : Type 0 where
+  pub accepted : number n cs ls ks ≡ 0
+  pub for-labels : length cs ≤ length (b .labelList)
+  pub for-work : 2 * 4 ^ n ≤ length (b .workList)
+  pub for-owners : 4 ^ n ≤ length (b .ownerList)
+  pub for-ends : 4 ^ n ≤ length (b .endList)
+  pub for-corners : 4 * 4 ^ n ≤ length (b .cornerList)
+
+-- Tests one of which holds, or none.
+first-holds : (a b : Bool) → a ≡ true → a || b ≡ true
+first-holds a b h = ap (λ (t : Bool). t || b) h
+
+none-hold : (a b : Bool) → a ≡ false → a || b ≡ b
+none-hold a b h = ap (λ (t : Bool). t || b) h
+
+module _ (n : ℕ) (cs ls ks : List ℕ) (b : Lent) where
+  pub list-fault : (k : ℕ) → k ≡ number n cs ls ks → (k ≡ 0 → ⊥) → k ≡ tracingNumber n cs ls ks b
+  unfolding tracingNumber numberWith
+  list-fault k e p = e ∙ sym (first-some (number n cs ls ks) (when (tooShort n (length cs) b) 8) (omega arith))
+
+  module _ (accepted : number n cs ls ks ≡ 0) where
+    short : tooShort n (length cs) b ≡ true → 8 ≡ tracingNumber n cs ls ks b
+    unfolding tracingNumber numberWith
+    short h = sym (first-none (number n cs ls ks) (when (tooShort n (length cs) b) 8) accepted ∙ when-yes (tooShort n (length cs) b) 8 h)
+
+    pub labels-short : length (b .labelList) < length cs → 8 ≡ tracingNumber n cs ls ks b
+    unfolding tooShort
+    labels-short h = short (first-holds (ltb (length (b .labelList)) (length cs)) _ (lt-ltb (length (b .labelList)) (length cs) h))
+
+    module _ (l : length cs ≤ length (b .labelList)) where
+      pub work-short : length (b .workList) < 2 * 4 ^ n → 8 ≡ tracingNumber n cs ls ks b
+      unfolding tooShort
+      work-short h =
+          short
+          (none-hold (ltb (length (b .labelList)) (length cs)) _ (le-ltb (length (b .labelList)) (length cs) l)
+          ∙ first-holds (ltb (length (b .workList)) (2 * 4 ^ n)) _ (lt-ltb (length (b .workList)) (2 * 4 ^ n) h))
+
+      module _ (w : 2 * 4 ^ n ≤ length (b .workList)) where
+        pub owners-short : length (b .ownerList) < 4 ^ n → 8 ≡ tracingNumber n cs ls ks b
+        unfolding tooShort
+        owners-short h =
+            short
+            (none-hold (ltb (length (b .labelList)) (length cs)) _ (le-ltb (length (b .labelList)) (length cs) l)
+            ∙ none-hold (ltb (length (b .workList)) (2 * 4 ^ n)) _ (le-ltb (length (b .workList)) (2 * 4 ^ n) w)
+            ∙ first-holds (ltb (length (b .ownerList)) (4 ^ n)) _ (lt-ltb (length (b .ownerList)) (4 ^ n) h))
+
+        module _ (o : 4 ^ n ≤ length (b .ownerList)) where
+          pub ends-short : length (b .endList) < 4 ^ n → 8 ≡ tracingNumber n cs ls ks b
+          unfolding tooShort
+          ends-short h =
+              short
+              (none-hold (ltb (length (b .labelList)) (length cs)) _ (le-ltb (length (b .labelList)) (length cs) l)
+              ∙ none-hold (ltb (length (b .workList)) (2 * 4 ^ n)) _ (le-ltb (length (b .workList)) (2 * 4 ^ n) w)
+              ∙ none-hold (ltb (length (b .ownerList)) (4 ^ n)) _ (le-ltb (length (b .ownerList)) (4 ^ n) o)
+              ∙ first-holds (ltb (length (b .endList)) (4 ^ n)) _ (lt-ltb (length (b .endList)) (4 ^ n) h))
+
+          module _ (e : 4 ^ n ≤ length (b .endList)) where
+            last : tooShort n (length cs) b ≡ ltb (length (b .cornerList)) (4 * 4 ^ n)
+            unfolding tooShort
+            last =
+                none-hold (ltb (length (b .labelList)) (length cs)) _ (le-ltb (length (b .labelList)) (length cs) l)
+                ∙ none-hold (ltb (length (b .workList)) (2 * 4 ^ n)) _ (le-ltb (length (b .workList)) (2 * 4 ^ n) w)
+                ∙ none-hold (ltb (length (b .ownerList)) (4 ^ n)) _ (le-ltb (length (b .ownerList)) (4 ^ n) o)
+                ∙ none-hold (ltb (length (b .endList)) (4 ^ n)) _ (le-ltb (length (b .endList)) (4 ^ n) e)
+
+            pub corners-short : length (b .cornerList) < 4 * 4 ^ n → 8 ≡ tracingNumber n cs ls ks b
+            corners-short h = short (last ∙ lt-ltb (length (b .cornerList)) (4 * 4 ^ n) h)
+
+            pub none-short : 4 * 4 ^ n ≤ length (b .cornerList) → 0 ≡ tracingNumber n cs ls ks b
+            unfolding tracingNumber numberWith
+            none-short h =
+                sym (first-none (number n cs ls ks) (when (tooShort n (length cs) b) 8) accepted
+                ∙ when-no (tooShort n (length cs) b) 8 (last ∙ le-ltb (length (b .cornerList)) (4 * 4 ^ n) h))
+
+  -- The same with the number of pixels as the code has it.
+  module _ {k whole : ℕ} (asked : k ≡ number n cs ls ks) (none : k ≡ 0) (size : whole ≡ pixelsOf n) where
+    ok : number n cs ls ks ≡ 0
+    ok = sym asked ∙ none
+
+    is : whole ≡ 4 ^ n
+    is = size ∙ pixels-are-power n (omega (arith, number-zero n cs ls ks ok .small))
+
+    pub whole-low : whole ≤ 65536
+    whole-low = let w : 4 ^ n ≤ 4 ^ 8 = pow4-mono (number-zero n cs ls ks ok .small) in omega (arith, is)
+
+    pub fault-labels : length (b .labelList) < length cs → 8 ≡ tracingNumber n cs ls ks b
+    fault-labels h = labels-short ok h
+
+    module _ (l : length cs ≤ length (b .labelList)) where
+      pub fault-work : length (b .workList) < 2 * whole → 8 ≡ tracingNumber n cs ls ks b
+      fault-work h = work-short ok l (omega (arith, is))
+
+      module _ (w : 2 * whole ≤ length (b .workList)) where
+        pub fault-owners : length (b .ownerList) < whole → 8 ≡ tracingNumber n cs ls ks b
+        fault-owners h = owners-short ok l (omega (arith, is)) (omega (arith, is))
+
+        module _ (o : whole ≤ length (b .ownerList)) where
+          pub fault-ends : length (b .endList) < whole → 8 ≡ tracingNumber n cs ls ks b
+          fault-ends h = ends-short ok l (omega (arith, is)) (omega (arith, is)) (omega (arith, is))
+
+          module _ (e : whole ≤ length (b .endList)) where
+            pub fault-corners : length (b .cornerList) < 4 * whole → 8 ≡ tracingNumber n cs ls ks b
+            fault-corners h = corners-short ok l (omega (arith, is)) (omega (arith, is)) (omega (arith, is)) (omega (arith, is))
+
+            pub no-fault : 4 * whole ≤ length (b .cornerList) → 0 ≡ tracingNumber n cs ls ks b
+            no-fault h = none-short ok l (omega (arith, is)) (omega (arith, is)) (omega (arith, is)) (omega (arith, is))
+
+  -- Where the number is 0 no cause applies.
+  pub needs-met : tracingNumber n cs ls ks b ≡ 0 → Needs n cs ls ks b
+  needs-met z =
+      pick (decLt (length (b .labelList)) (length cs)) (decLt (length (b .workList)) (2 * 4 ^ n)) (decLt (length (b .ownerList)) (4 ^ n))
+      (decLt (length (b .endList)) (4 ^ n)) (decLt (length (b .cornerList)) (4 * 4 ^ n))
+    where
+      ok : number n cs ls ks ≡ 0
+      ok = from z
+        where
+          from : tracingNumber n cs ls ks b ≡ 0 → number n cs ls ks ≡ 0
+          from h = pick (number n cs ls ks) refl
+            where
+              pick : (k : ℕ) → number n cs ls ks ≡ k → number n cs ls ks ≡ 0
+              pick zero e = e
+              pick (suc k) e = absurd (omega (arith, list-fault (suc k) (sym e) (λ y. omega arith)))
+
+      pick : Dec (length (b .labelList) < length cs) → Dec (length (b .workList) < 2 * 4 ^ n) → Dec (length (b .ownerList) < 4 ^ n)
+          → Dec (length (b .endList) < 4 ^ n) → Dec (length (b .cornerList) < 4 * 4 ^ n) → Needs n cs ls ks b
+      pick (yes h) w o e c = absurd (omega (arith, labels-short ok h))
+      pick (no l) (yes h) o e c = absurd (omega (arith, work-short ok (omega arith) h))
+      pick (no l) (no w) (yes h) e c = absurd (omega (arith, owners-short ok (omega arith) (omega arith) h))
+      pick (no l) (no w) (no o) (yes h) c = absurd (omega (arith, ends-short ok (omega arith) (omega arith) (omega arith) h))
+      pick (no l) (no w) (no o) (no e) (yes h) = absurd (omega (arith, corners-short ok (omega arith) (omega arith) (omega arith) (omega arith) h))
+      pick (no l) (no w) (no o) (no e) (no c) = record {
+        accepted = ok;
+        for-labels = omega arith;
+        for-work = omega arith;
+        for-owners = omega arith;
+        for-ends = omega arith;
+        for-corners = omega arith;
+      }
+
+  -- A refusal returns its number, and counts 0, and leaves all lists.
+  pub refused : {k : ℕ} → (k ≡ 0 → ⊥) → k ≡ tracingNumber n cs ls ks b → Tracing n cs ls ks b b (record { number = k; regions = 0; cycles = 0; corners = 0 })
+  unfolding cyclesWritten labelsLeft zerosLeft regionsListed cycleCount cornerCount owners ends allCorners
+  refused {k} p e =
+      let some : 0 < tracingNumber n cs ls ks b = omega arith in
+      let no-cycles : cyclesWritten n cs ls ks b ≡ [] = written-refused (tracingNumber n cs ls ks b) (outlinesOf n cs ls ks) some in
+      let no-labels : labelsLeft n cs ls ks b ≡ [] = written-refused (tracingNumber n cs ls ks b) (labels n (blocks cs ls ks)) some in
+      let no-zeros : zerosLeft n cs ls ks b ≡ [] = written-refused (tracingNumber n cs ls ks b) (replicate (2 * 4 ^ n) 0) some in
+      record {
+        answer = λ i. record {
+          number = e i;
+          regions = sym (count-refused (tracingNumber n cs ls ks b) (regions n (paint (blocks cs ls ks))) some) i;
+          cycles = cycleCount (sym no-cycles i);
+          corners = cornerCount (sym no-cycles i);
+        };
+        in-labels = sym (ap (λ (l : List ℕ). over l (b .labelList)) no-labels ∙ over-none (b .labelList));
+        in-work = sym (ap (λ (l : List ℕ). over l (b .workList)) no-zeros ∙ over-none (b .workList));
+        in-owners = sym (ap (λ (c : List Cycle). over (owners c) (b .ownerList)) no-cycles ∙ over-none (b .ownerList));
+        in-ends = sym (ap (λ (c : List Cycle). over (ends c) (b .endList)) no-cycles ∙ over-none (b .endList));
+        in-corners = sym (ap (λ (c : List Cycle). over (allCorners c) (b .cornerList)) no-cycles ∙ over-none (b .cornerList));
+      }

@@ -1,0 +1,98 @@
+/* Traces a binary PGM of up to 256 by 256 pixels through the library and prints what the program `outlines` prints: one line
+   a region, the path data of its cycles joined; or `refused` and the number.
+
+       rt staticlib exports
+       gcc -O2 -Iinclude -o target/trace examples/trace.c target/staticlib/libexports.a
+       target/trace samples/clock-256.pgm
+*/
+#include <nettlestair.h>
+#include <stdio.h>
+#include <stdlib.h>
+
+/* The pixels of the largest picture: every need is told by them. */
+#define WHOLE 65536
+
+static uint32_t codes[WHOLE], labels[WHOLE], work[2 * WHOLE], owners[WHOLE], ends[WHOLE], corners[4 * WHOLE];
+static uint8_t levels[WHOLE], colours[WHOLE], text[9 + 4 * 4 * WHOLE];
+
+/* Prints the line of a refusal; the status of the program. */
+static int refused(uint32_t number) {
+    printf("refused %u\n", (unsigned)number);
+    return 1;
+}
+
+/* Prints the lines for the bytes of a picture; the status of the program. */
+static int outlines(const uint8_t *bytes, size_t length) {
+    struct nettlestair_picture picture = nettlestair_read_pgm(bytes, length);
+    if (picture.number != 0)
+        return refused(picture.number);
+
+    /* the raster as blocks */
+    uint32_t n = picture.n;
+    struct nettlestair_written merged = nettlestair_blocks_from_raster(n, bytes + picture.start, picture.length, codes, WHOLE,
+                                                                       levels, WHOLE, colours, WHOLE);
+    if (merged.number != 0)
+        return refused(merged.number);
+
+    /* the outlines of its regions */
+    size_t blocks = merged.count;
+    struct nettlestair_traced traced =
+        nettlestair_trace(n, codes, blocks, levels, blocks, colours, blocks, labels, WHOLE, work, 2 * WHOLE, owners, WHOLE,
+                          ends, WHOLE, corners, 4 * WHOLE);
+    if (traced.number != 0)
+        return refused(traced.number);
+
+    /* cycle after cycle as path data; the cycles of a region stand one after the other */
+    for (uint32_t k = 0; k < traced.cycles; k++) {
+        if (k > 0 && owners[k] != owners[k - 1])
+            putchar('\n');
+        struct nettlestair_stretch cycle = nettlestair_cycle(corners, 4 * WHOLE, ends, WHOLE, traced.cycles, k);
+        /* never refused: an outline of a tracing has cycle form, and the text has room for it */
+        struct nettlestair_written path = nettlestair_svg(corners + cycle.start, cycle.length, text, sizeof text);
+        fwrite(text, 1, path.count, stdout);
+    }
+    putchar('\n');
+    return 0;
+}
+
+/* The bytes of a file; NULL if it can't be read. */
+static uint8_t *contents(const char *name, size_t *length) {
+    FILE *file = fopen(name, "rb");
+    if (file == NULL)
+        return NULL;
+    size_t room = 1 << 16;
+    uint8_t *bytes = malloc(room);
+    *length = 0;
+    while (bytes != NULL) {
+        *length += fread(bytes + *length, 1, room - *length, file);
+        if (*length < room)
+            break;
+        room *= 2;
+        uint8_t *more = realloc(bytes, room);
+        if (more == NULL)
+            free(bytes);
+        bytes = more;
+    }
+    if (bytes != NULL && ferror(file)) {
+        free(bytes);
+        bytes = NULL;
+    }
+    fclose(file);
+    return bytes;
+}
+
+int main(int count, char **words) {
+    if (count != 2) {
+        fprintf(stderr, "usage: trace FILE.pgm\n");
+        return 2;
+    }
+    size_t length;
+    uint8_t *bytes = contents(words[1], &length);
+    if (bytes == NULL) {
+        perror(words[1]);
+        return 2;
+    }
+    int status = outlines(bytes, length);
+    free(bytes);
+    return fflush(stdout) == 0 ? status : 2;
+}

@@ -1,0 +1,80 @@
+//! Traces a binary PGM of up to 256 by 256 pixels through the library and prints what the program `outlines` prints: one line
+//! a region, the path data of its cycles joined; or `refused` and the number.
+//!
+//!     rt staticlib exports
+//!     rustc -O --edition 2021 -L target/staticlib -l static=exports -o target/trace examples/trace.rs
+//!     target/trace samples/clock-256.pgm
+
+mod nettlestair;
+
+use std::io::Write;
+use std::process::ExitCode;
+use std::{env, fs, io};
+
+/// The lines for the bytes of a picture, or the number with which the library refuses it.
+fn outlines(bytes: &[u8]) -> Result<Vec<u8>, u32> {
+    let picture = nettlestair::read_pgm(bytes);
+    accepted(picture.number)?;
+    let n = picture.n;
+    let whole = 1 << (2 * n);
+
+    // the raster as blocks
+    let (mut codes, mut levels, mut colours) = (vec![0; whole], vec![0; whole], vec![0; whole]);
+    let merged = nettlestair::blocks_from_raster(n, picture.raster, &mut codes, &mut levels, &mut colours);
+    accepted(merged.number)?;
+    let blocks = merged.count as usize;
+    let (codes, levels, colours) = (&codes[..blocks], &levels[..blocks], &colours[..blocks]);
+
+    // the outlines of its regions
+    let (mut labels, mut work) = (vec![0; blocks], vec![0; 2 * whole]);
+    let (mut owners, mut ends, mut corners) = (vec![0; whole], vec![0; whole], vec![0; 4 * whole]);
+    let traced =
+        nettlestair::trace(n, codes, levels, colours, &mut labels, &mut work, &mut owners, &mut ends, &mut corners);
+    accepted(traced.number)?;
+
+    // cycle after cycle as path data; the cycles of a region stand one after the other
+    let mut lines = Vec::new();
+    for k in 0..traced.cycles {
+        if k > 0 && owners[k as usize] != owners[k as usize - 1] {
+            lines.push(b'\n');
+        }
+        let cycle = nettlestair::cycle(&corners, &ends, traced.cycles, k);
+        let end = lines.len();
+        lines.resize(end + 9 + 4 * cycle.len(), 0);
+        let path = nettlestair::svg(cycle, &mut lines[end..]);
+        accepted(path.number)?;
+        lines.truncate(end + path.count as usize);
+    }
+    lines.push(b'\n');
+    Ok(lines)
+}
+
+/// An answer's number as a result.
+fn accepted(number: u32) -> Result<(), u32> {
+    match number {
+        0 => Ok(()),
+        _ => Err(number),
+    }
+}
+
+fn main() -> ExitCode {
+    let Some(name) = env::args_os().nth(1) else {
+        eprintln!("usage: trace FILE.pgm");
+        return ExitCode::from(2);
+    };
+    let bytes = match fs::read(&name) {
+        Ok(bytes) => bytes,
+        Err(error) => {
+            eprintln!("trace: {}: {error}", name.display());
+            return ExitCode::from(2);
+        }
+    };
+    let (text, status) = match outlines(&bytes) {
+        Ok(lines) => (lines, ExitCode::SUCCESS),
+        Err(number) => (format!("refused {number}\n").into_bytes(), ExitCode::FAILURE),
+    };
+    match io::stdout().write_all(&text) {
+        Ok(()) => status,
+        Err(_) => ExitCode::from(2),
+    }
+}

@@ -1,0 +1,50 @@
+//! What numbering should answer and write for a block list, by the model.
+
+use crate::calls::Expected;
+use crate::library::Numbered;
+use crate::model::blocks::{number, paint, Blocks};
+use crate::model::regions::Regions;
+
+/// The needs of the label, work, owner, end and corner lists. n above 8 is refused before any need, and gets those of one
+/// pixel.
+pub fn needs(n: u32, blocks: usize) -> [usize; 5] {
+    let pixels = if n > 8 { 1 } else { 1 << (2 * n) };
+    [blocks, 2 * pixels, pixels, pixels, 4 * pixels]
+}
+
+/// A block list as the model sees it: its number by causes 1 to 7 and, where that is 0, its regions.
+pub struct Model {
+    pub number: u32,
+    needs: [usize; 5],
+    labels: Vec<u32>,
+    pub regions: Option<Regions>,
+}
+
+impl Model {
+    pub fn of(n: u32, blocks: &Blocks) -> Model {
+        let number = number(n, &blocks.codes, &blocks.levels, &blocks.colours);
+        let regions = (number == 0).then(|| Regions::of(n, &paint(n, blocks)));
+        let labels = regions.as_ref().map(|r| r.labels(blocks)).unwrap_or_default();
+        Model { number, needs: needs(n, blocks.len()), labels, regions }
+    }
+
+    /// The answer of numbering with lists of these lengths: "1, 2, then per block in list order 3, 4, 5, then 6, 7, 8".
+    pub fn numbering(&self, lengths: [usize; 2]) -> Expected<Numbered, 2> {
+        let number = self.number_with(&lengths);
+        match &self.regions {
+            Some(regions) if number == 0 => Expected {
+                answer: Numbered { number, regions: regions.count },
+                written: [self.labels.clone(), vec![0; self.needs[1]]],
+            },
+            _ => Expected { answer: Numbered { number, regions: 0 }, written: [vec![], vec![]] },
+        }
+    }
+
+    fn number_with(&self, lengths: &[usize]) -> u32 {
+        let short = lengths.iter().zip(self.needs).any(|(&length, need)| length < need);
+        match self.number {
+            0 if short => 8,
+            number => number,
+        }
+    }
+}

@@ -1,0 +1,271 @@
+//! Random and damaged inputs over all functions of the library, each compared with the model: 200,000 of them, small
+//! ones mostly. NETTLESTAIR_FUZZ_SECONDS=N goes on for N seconds after those.
+
+use std::collections::BTreeSet;
+use std::time::{Duration, Instant};
+use tests::calls::{self, BlocksOut, Called, Out};
+use tests::cases::Cases;
+use tests::compare::Shown;
+use tests::expected::{needs, Model};
+use tests::faults;
+use tests::lent::Entry;
+use tests::library::{self, Picture, Stretch};
+use tests::model::blocks::{number, paint, quadtree, Blocks};
+use tests::model::paths;
+use tests::model::pgm::{self, Read};
+use tests::outlines::random_outline;
+use tests::random::Random;
+use tests::rasters;
+
+/// One input of a function: the number that the model gives, and what differs in the library's answer. Where `wrong` is 1
+/// instead of 0, the answer is changed before it is compared, so that something differs.
+type Try = fn(random: &mut Random, wrong: u32) -> (u32, Option<String>);
+
+/// Each function with the numbers that it can answer; the stretch of a cycle has none.
+const FUNCTIONS: [(&str, Try, &[u32]); 9] = [
+    ("fuzzing, check", check, &[0, 1, 2, 3, 4, 5, 6, 7]),
+    ("fuzzing, raster to blocks", blocks_from_raster, &[0, 1, 8, 9]),
+    ("fuzzing, blocks to raster", raster_from_blocks, &[0, 1, 2, 3, 4, 5, 6, 7, 8]),
+    ("fuzzing, numbers", numbering, &[0, 1, 2, 3, 4, 5, 6, 7, 8]),
+    ("fuzzing, stretches", cycle, &[0]),
+    ("fuzzing, path data", svg, &[0, 8, 16]),
+    ("fuzzing, chains", chain, &[0, 8, 16]),
+    ("fuzzing, chains read", read_chain, &[0, 8, 17]),
+    ("fuzzing, pictures", read_pgm, &[0, 10, 11, 12, 13, 14]),
+];
+
+#[test]
+fn every_function() {
+    let mut random = Random::of("fuzzing");
+    let mut cases = FUNCTIONS.map(|(name, _, _)| Cases::of(name));
+    let mut seen = FUNCTIONS.map(|_| BTreeSet::new());
+    let seconds = std::env::var("NETTLESTAIR_FUZZ_SECONDS").ok().map(|text| text.parse().expect("a number of seconds"));
+    let end = Instant::now() + Duration::from_secs(seconds.unwrap_or(0));
+    let mut inputs = 0;
+    while inputs < 200_000 || Instant::now() < end {
+        let which = random.below(FUNCTIONS.len());
+        let (name, function, _) = FUNCTIONS[which];
+        let (number, difference) = function(&mut random, 0);
+        calls::agrees(format_args!("{name}, input {inputs}"), difference);
+        seen[which].insert(number);
+        cases[which].ran();
+        inputs += 1;
+    }
+    for ((name, _, numbers), seen) in FUNCTIONS.iter().zip(seen) {
+        assert_eq!(seen, numbers.iter().copied().collect(), "{name}: the numbers answered");
+    }
+    println!("fuzzing: {inputs} inputs");
+    cases.into_iter().for_each(Cases::end);
+}
+
+/// Each comparison can fail: another answer is seen, whatever the input.
+#[test]
+fn another_answer_is_seen() {
+    let mut random = Random::of("fuzzing, another answer");
+    let mut cases = Cases::of("fuzzing, another answer");
+    for (name, function, _) in FUNCTIONS {
+        for _ in 0..300 {
+            let (_, difference) = function(&mut random, 1);
+            assert!(difference.is_some(), "{name}: another answer is not seen");
+            cases.ran();
+        }
+    }
+    cases.end();
+}
+
+/// n: small mostly, large at times, at times above 8.
+fn side(random: &mut Random) -> u32 {
+    match random.below(1000) {
+        0 => 7 + random.below(2) as u32,
+        1..=5 => 5 + random.below(2) as u32,
+        6..=30 => [9, 10, 16, 32, 255, 256, 65536, u32::MAX, random.word() | 16][random.below(9)],
+        _ => [0, 1, 1, 2, 2, 2, 3, 3, 3, 4][random.below(10)],
+    }
+}
+
+/// How many faults an input gets.
+fn faulty(random: &mut Random) -> usize {
+    [0, 0, 0, 1, 1, 2, 3][random.below(7)]
+}
+
+/// A length for a list with this need: enough mostly, at times too short.
+fn length(random: &mut Random, need: usize) -> usize {
+    match random.below(20) {
+        0 => need.max(1) - 1,
+        1 => random.below(need + 1),
+        2..=8 => need,
+        _ => need + random.below(9),
+    }
+}
+
+/// n and a block list, faulty or not.
+fn block_list(random: &mut Random) -> (u32, Blocks) {
+    let n = side(random);
+    let drawn = if n > 8 { 2 } else { n };
+    let raster = rasters::any(random, drawn);
+    let mut blocks = quadtree(drawn, &raster);
+    for _ in 0..faulty(random) {
+        faults::in_blocks(random, &mut blocks);
+    }
+    (n, blocks)
+}
+
+fn check(random: &mut Random, wrong: u32) -> (u32, Option<String>) {
+    let (n, blocks) = block_list(random);
+    let Blocks { codes, levels, colours } = &blocks;
+    let expected = number(n, codes, levels, colours);
+    let found = library::check(n, codes, levels, colours) + wrong;
+    (expected, (expected != found).then(|| format!("n = {n}, {blocks}: expected {expected}, found {found}")))
+}
+
+fn blocks_from_raster(random: &mut Random, wrong: u32) -> (u32, Option<String>) {
+    let n = side(random);
+    let drawn = if n > 8 { 2 } else { n };
+    let mut raster = rasters::any(random, drawn);
+    if random.below(8) == 0 {
+        faults::in_bytes(random, &mut raster, &[0, 1]);
+    }
+    let need = 1 << (2 * drawn);
+    let lengths = [need, need, need].map(|need| length(random, need));
+    let mut out = BlocksOut::call(random, n, &raster, lengths);
+    out.written.count += wrong;
+    let number = match (n > 8, raster.len() != need, lengths.iter().any(|&length| length < need)) {
+        (true, _, _) => 1,
+        (_, true, _) => 9,
+        (_, _, true) => 8,
+        _ => 0,
+    };
+    let difference = match number {
+        0 => out.difference(&quadtree(n, &raster)),
+        _ => out.difference_from_refusal(number),
+    };
+    (number, difference.map(|d| format!("n = {n}, raster {}, lengths {lengths:?}: {d}", Shown(&raster))))
+}
+
+fn raster_from_blocks(random: &mut Random, wrong: u32) -> (u32, Option<String>) {
+    let (n, blocks) = block_list(random);
+    let need = if n > 8 { 1 } else { 1 << (2 * n) };
+    let length = length(random, need);
+    let mut out = calls::raster_from_blocks(random, n, &blocks, length);
+    out.written.number += wrong;
+    let number = match number(n, &blocks.codes, &blocks.levels, &blocks.colours) {
+        0 if length < need => 8,
+        number => number,
+    };
+    let difference = match number {
+        0 => out.difference(&paint(n, &blocks)),
+        _ => out.difference_from_refusal(number),
+    };
+    (number, difference.map(|d| format!("n = {n}, {blocks}, raster of {length}: {d}")))
+}
+
+fn numbering(random: &mut Random, wrong: u32) -> (u32, Option<String>) {
+    let (n, blocks) = block_list(random);
+    let [labels, work, ..] = needs(n, blocks.len());
+    let lengths = [labels, work].map(|need| length(random, need));
+    let expected = Model::of(n, &blocks).numbering(lengths);
+    let Called { mut answer, lists } = calls::number(random, n, &blocks, lengths);
+    answer.regions += wrong;
+    let difference = Called { answer, lists }.difference(&expected);
+    (expected.answer.number, difference.map(|d| format!("n = {n}, {blocks}, lengths {lengths:?}: {d}")))
+}
+
+fn cycle(random: &mut Random, wrong: u32) -> (u32, Option<String>) {
+    let corners = vec![7; random.below(9)];
+    let mut ends: Vec<u32> = (0..random.below(6)).map(|_| random.below(11) as u32).collect();
+    if random.below(2) == 0 {
+        ends.sort();
+    }
+    if random.below(9) == 0 && !ends.is_empty() {
+        let at = random.below(ends.len());
+        ends[at] = random.word();
+    }
+    let [count, k] = [0, 0].map(|_| if random.below(9) == 0 { random.word() } else { random.below(7) as u32 });
+    let (start, length) = paths::stretch(corners.len(), &ends, count, k);
+    let mut found = library::cycle(&corners, &ends, count, k);
+    found.length += wrong as usize;
+    let differs = found != Stretch { start, length };
+    (0, differs.then(|| format!("{} corners, ends {ends:?}, count {count}, k {k}: {found:?}", corners.len())))
+}
+
+/// A corner list, faulty or not.
+fn corner_list(random: &mut Random) -> Vec<u32> {
+    let most = if random.below(50) == 0 { 200 } else { 6 };
+    let pairs = 2 + random.below(most);
+    let most = [2, 3, 9, 99, 100, 256][random.below(6)];
+    let mut corners = random_outline(random, pairs, most);
+    for _ in 0..faulty(random) {
+        faults::in_corners(random, &mut corners);
+    }
+    corners
+}
+
+/// What differs from the answer by the order: `number` where there is no cycle form, then 8, then acceptance.
+fn judged<T: Entry>(out: Out<T>, form: Option<&[T]>, number: u32, room: bool, wrong: u32) -> (u32, Option<String>) {
+    let Out { mut written, list } = out;
+    written.count += wrong;
+    let out = Out { written, list };
+    match form {
+        None => (number, out.difference_from_refusal(number)),
+        Some(_) if !room => (8, out.difference_from_refusal(8)),
+        Some(entries) => (0, out.difference(entries)),
+    }
+}
+
+fn svg(random: &mut Random, wrong: u32) -> (u32, Option<String>) {
+    let corners = corner_list(random);
+    let text = paths::is_cycle_form(&corners).then(|| paths::svg(&corners).into_bytes());
+    let need = 9 + 4 * corners.len();
+    let length = length(random, need);
+    let out = Out::of(random, length, |list| library::svg(&corners, list));
+    let (number, difference) = judged(out, text.as_deref(), 16, need <= length, wrong);
+    (number, difference.map(|d| format!("{}, room for {length}: {d}", Shown(&corners))))
+}
+
+fn chain(random: &mut Random, wrong: u32) -> (u32, Option<String>) {
+    let corners = corner_list(random);
+    let digits = paths::is_cycle_form(&corners).then(|| paths::chain(&corners));
+    let need = digits.as_ref().map_or(9, Vec::len);
+    let length = length(random, need);
+    let out = Out::of(random, length, |list| library::chain(&corners, list));
+    let (number, difference) = judged(out, digits.as_deref(), 16, need <= length, wrong);
+    (number, difference.map(|d| format!("{}, room for {length}: {d}", Shown(&corners))))
+}
+
+fn read_chain(random: &mut Random, wrong: u32) -> (u32, Option<String>) {
+    let pairs = 2 + random.below(6);
+    let most = [2, 3, 9, 40][random.below(4)];
+    let outline = random_outline(random, pairs, most);
+    let mut digits = paths::chain(&outline);
+    for _ in 0..faulty(random) {
+        faults::in_bytes(random, &mut digits, b"0123");
+    }
+    let start = if random.below(9) == 0 { random.word() >> random.below(32) } else { outline[0] };
+    let corners = paths::read_chain(start, &digits);
+    let need = corners.as_ref().map_or(9, Vec::len);
+    let length = length(random, need);
+    let out = Out::of(random, length, |list| library::read_chain(start, &digits, list));
+    let (number, difference) = judged(out, corners.as_deref(), 17, need <= length, wrong);
+    (number, difference.map(|d| format!("from {start}, {}, room for {length}: {d}", Shown(&digits))))
+}
+
+fn read_pgm(random: &mut Random, wrong: u32) -> (u32, Option<String>) {
+    let n = [0, 1, 1, 2, 2, 3, 4][random.below(7)];
+    let maxval = [1, 9, 100, 254, 255, 255, 255][random.below(7)];
+    let space = [" ", "\n", "\t", "\r\n", "  "][random.below(5)];
+    let side = 1 << n;
+    let raster: Vec<u8> = (0..side * side).map(|_| random.below(maxval + 1) as u8).collect();
+    let mut bytes = format!("P5{space}{side}{space}{side}{space}{maxval}\n").into_bytes();
+    for _ in 0..faulty(random) {
+        faults::in_bytes(random, &mut bytes, b"P5 \n\t\r0123456789#");
+    }
+    bytes.extend(raster);
+    for _ in 0..faulty(random) / 2 {
+        faults::in_bytes(random, &mut bytes, &[0, 255]);
+    }
+    let Read { number, n, maxval, start, length } = pgm::read(&bytes);
+    let mut found = library::read_pgm(&bytes);
+    found.start += wrong as usize;
+    let differs = found != Picture { number, n, maxval, start, length };
+    (number, differs.then(|| format!("{}: {found:?}", Shown(&bytes))))
+}
