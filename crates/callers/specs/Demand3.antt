@@ -1,0 +1,303 @@
+-- Demand 3 where a caller stands: from the promise of an accepted tracing, what the lists at exit hold.
+use mathlib.Core.Path.{_≡_, refl, sym, ap, ap₂, _∙_, subst}
+use mathlib.Core.Logic.{_≢_, _⊎_, _↔_}
+use mathlib.Core.Bool.{true}
+use mathlib.Core.List.{List, []}
+use Prim.Native.Nat.{ℕ, suc, _*_, _^_, _≤_, _<_}
+use native.Mathlib.Omega.{arith}
+use lib.ListN.{length, getD, replicate, length-replicate, getD-replicate}
+use Rattle.sequences.specs.Cases.{ifAccepted, written-accepted, written-refused}
+use Rattle.sequences.specs.Over.{over, over-none, over-inside, over-beyond}
+use Rattle.sequences.specs.Ranges.{tabulate}
+use Rattle.quadtree.specs.Blocks.{Block, blocks, paint}
+use Rattle.quadtree.specs.Number.{number}
+use Rattle.quadtree.specs.Accepted.{Passes, number-zero}
+use Rattle.components.specs.Numbers.{numbers, labels, regions}
+use Rattle.components.specs.Numbered.{FirstOf, number-below-regions, each-number-given, no-other-by-least-codes}
+use Rattle.components.specs.Labels.{length-labels}
+use Rattle.components.specs.Walk.{count}
+use Rattle.lattice.specs.Directions.{rightOf, digit, head}
+use Rattle.lattice.specs.Walks.{outline, corners}
+use Rattle.lattice.specs.CycleForm.{cycleForm}
+use Rattle.orbits.specs.Members.{In, Distinct, one-place}
+use Rattle.grid.specs.Map.{regionAt}
+use Rattle.grid.specs.Steps.{Edge, step}
+use Rattle.grid.specs.Cycles.{cycle, northSide}
+use Rattle.grid.specs.Listing.{startCodes, Cycle, listing, owners, ends, allCorners, pointsAt, cycleCount, cornerCount}
+use Rattle.grid.specs.Listed.{SidesOnce, OutlinesListed, listing-length, points-at, outline-at, ring-at, each-side-once, all-outlines-listed}
+use Rattle.grid.specs.Bounds.{cycles-fit, corner-count-fits}
+use Rattle.grid.specs.Forms.{listed-is-cycle-form}
+use Rattle.grid.specs.Outer.{OuterAt, first-is-outer, region-has-first}
+use Rattle.grid.specs.Starting.{margin}
+use Rattle.grid.specs.Stretches.{length-owners, length-ends, last-end}
+use Rattle.grid.specs.Pinches.{meeting-turns-right}
+use Rattle.paths.specs.Stretch.{stretchOf}
+use Rattle.regions.specs.Promise.{Numbering, countIfAccepted, count-accepted, count-refused, numbered}
+use Rattle.regions.specs.Callers.{labelOfPixel, labels-by-least-codes}
+use Rattle.tracing.specs.Tracing.{Lent, tracingNumber, outlinesOf, cyclesWritten, labelsLeft, zerosLeft, regionsListed, Tracing, Needs, needs-met}
+use Rattle.tracing.specs.declared.Traced.{Traced}
+use Rattle.callers.specs.Reading.{cyclesHeld, stretch-is-cycle, cycles-read-back}
+
+-- The cycles that the lists at exit hold, up to the count: each owner, and for each cycle the stretch of the corner list.
+abbrev pub heldAt : Lent → Traced → List Cycle
+heldAt after r = cyclesHeld (after .ownerList) (after .endList) (after .cornerList) (r .cycles)
+
+-- The region numbers of the pixels, and the start pixels of all cycles in the order of the listing.
+abbrev pub numbersOf : ℕ → List ℕ → List ℕ → List ℕ → List ℕ
+numbersOf n cs ls ks = numbers n (paint (blocks cs ls ks))
+
+abbrev pub startsOf : ℕ → List ℕ → List ℕ → List ℕ → List ℕ
+startsOf n cs ls ks = startCodes n (numbers n (paint (blocks cs ls ks))) (regions n (paint (blocks cs ls ks)))
+
+pub record AtExit (n : ℕ) (cs ls ks : List ℕ) (before after : Lent) (r : Traced) : Type 0 where
+  -- "exactly the counts of regions, cycles and corners"
+  pub region-count : r .regions ≡ regions n (paint (blocks cs ls ks))
+  pub cycle-count : r .cycles ≡ length (startsOf n cs ls ks)
+  pub corner-count : r .corners ≡ cornerCount (heldAt after r)
+  pub last-end-is-count : (k : ℕ) → suc k ≡ r .cycles → getD (after .endList) k 0 ≡ r .corners
+  -- the stated needs suffice
+  pub few-cycles : r .cycles ≤ 4 ^ n
+  pub few-corners : r .corners ≤ 4 * 4 ^ n
+  -- the labels at exit give each pixel its region number
+  pub numbers-by-labels : tabulate (4 ^ n) (labelOfPixel (blocks cs ls ks) (after .labelList)) ≡ numbersOf n cs ls ks
+  -- the lists hold the listing: owners, ends and corners as defined
+  pub lists : heldAt after r ≡ outlinesOf n cs ls ks
+  -- all closed outlines of the rule of steps, each once, in the fixed order
+  pub outlines : OutlinesListed n (numbersOf n cs ls ks) (heldAt after r) (startsOf n cs ls ks)
+  -- each side between a region and what is not that region in exactly one of its outlines, once, and nothing else
+  pub sides : SidesOnce (regionAt n (numbersOf n cs ls ks)) (heldAt after r)
+  -- the stretch of cycle k is exactly the corners of the k-th cycle, from its start, and a cycle form
+  pub stretch : (k : ℕ) → k < r .cycles
+      → stretchOf (after .cornerList) (after .endList) (r .cycles) k ≡ corners (cycle n (numbersOf n cs ls ks) (getD (startsOf n cs ls ks) k 0))
+  pub cycle-form : (k : ℕ) → k < r .cycles → cycleForm (stretchOf (after .cornerList) (after .endList) (r .cycles) k) ≡ true
+  -- the first cycle of a region is its outer one; every region has one
+  pub outer : (k : ℕ) → k < r .cycles → ((j : ℕ) → j < k → getD (after .ownerList) j 0 ≢ getD (after .ownerList) k 0)
+      → OuterAt n (numbersOf n cs ls ks) (heldAt after r) k (getD (startsOf n cs ls ks) k 0)
+  pub each-region : (v : ℕ) → v < r .regions
+      → (k : ℕ) × (k < r .cycles) × (getD (after .ownerList) k 0 ≡ v) × ((j : ℕ) → j < k → getD (after .ownerList) j 0 ≢ getD (after .ownerList) k 0)
+  -- an outline that meets itself at a point turns right there
+  pub meeting : (k i j : ℕ) → k < r .cycles → i < length (outline (pointsAt (heldAt after r) k)) → j < length (outline (pointsAt (heldAt after r) k)) → i ≢ j
+      → head (getD (outline (pointsAt (heldAt after r) k)) i 0) ≡ head (getD (outline (pointsAt (heldAt after r) k)) j 0)
+      → digit (step (regionAt n (numbersOf n cs ls ks)) (getD (outline (pointsAt (heldAt after r) k)) i 0)) ≡ rightOf (digit (getD (outline (pointsAt (heldAt after r) k)) i 0))
+  -- "On acceptance the work list's first 2 times 4^n entries are 0, and entries beyond those a list needs for its answer are unchanged"
+  pub work-cleared : (i : ℕ) → i < 2 * 4 ^ n → getD (after .workList) i 0 ≡ 0
+  pub work-kept : (i : ℕ) → 2 * 4 ^ n ≤ i → getD (after .workList) i 0 ≡ getD (before .workList) i 0
+  pub labels-kept : (i : ℕ) → length cs ≤ i → getD (after .labelList) i 0 ≡ getD (before .labelList) i 0
+  pub owners-kept : (i : ℕ) → r .cycles ≤ i → getD (after .ownerList) i 0 ≡ getD (before .ownerList) i 0
+  pub ends-kept : (i : ℕ) → r .cycles ≤ i → getD (after .endList) i 0 ≡ getD (before .endList) i 0
+  pub corners-kept : (i : ℕ) → r .corners ≤ i → getD (after .cornerList) i 0 ≡ getD (before .cornerList) i 0
+
+module _ {n : ℕ} {cs ls ks : List ℕ} {before after : Lent} {r : Traced} (p : Tracing n cs ls ks before after r) where
+  number-answered : r .number ≡ tracingNumber n cs ls ks before
+  number-answered = ap (λ (a : Traced). a .number) (p .answer)
+
+  -- An accepted list with long enough lists is never refused, and a refusal leaves all lists.
+  pub refusal-leaves-all : (r .number ≡ 0 → ⊥) → (r .regions ≡ 0) × (r .cycles ≡ 0) × (r .corners ≡ 0) × (after ≡ before)
+  unfolding cyclesWritten labelsLeft zerosLeft regionsListed cycleCount cornerCount owners ends allCorners
+  refusal-leaves-all h =
+      let some : 0 < tracingNumber n cs ls ks before = omega (arith, number-answered) in
+      let no-cycles : cyclesWritten n cs ls ks before ≡ [] = written-refused (tracingNumber n cs ls ks before) (outlinesOf n cs ls ks) some in
+      let same-labels : after .labelList ≡ before .labelList =
+      p .in-labels ∙ ap (λ (l : List ℕ). over l (before .labelList)) (written-refused (tracingNumber n cs ls ks before) (labels n (blocks cs ls ks)) some)
+      ∙ over-none (before .labelList) in
+      let same-work : after .workList ≡ before .workList =
+      p .in-work ∙ ap (λ (l : List ℕ). over l (before .workList)) (written-refused (tracingNumber n cs ls ks before) (replicate (2 * 4 ^ n) 0) some)
+      ∙ over-none (before .workList) in
+      let same-owners : after .ownerList ≡ before .ownerList =
+      p .in-owners ∙ ap (λ (c : List Cycle). over (owners c) (before .ownerList)) no-cycles ∙ over-none (before .ownerList) in
+      let same-ends : after .endList ≡ before .endList =
+      p .in-ends ∙ ap (λ (c : List Cycle). over (ends c) (before .endList)) no-cycles ∙ over-none (before .endList) in
+      let same-corners : after .cornerList ≡ before .cornerList =
+      p .in-corners ∙ ap (λ (c : List Cycle). over (allCorners c) (before .cornerList)) no-cycles ∙ over-none (before .cornerList) in (
+        ap (λ (a : Traced). a .regions) (p .answer) ∙ count-refused (tracingNumber n cs ls ks before) (regions n (paint (blocks cs ls ks))) some,
+        ap (λ (a : Traced). a .cycles) (p .answer) ∙ ap cycleCount no-cycles,
+        ap (λ (a : Traced). a .corners) (p .answer) ∙ ap cornerCount no-cycles,
+        λ i. record { labelList = same-labels i; workList = same-work i; ownerList = same-owners i; endList = same-ends i; cornerList = same-corners i },
+      )
+
+  module _ (ok : r .number ≡ 0) where
+    zero-number : tracingNumber n cs ls ks before ≡ 0
+    zero-number = sym number-answered ∙ ok
+
+    met : Needs n cs ls ks before
+    met = needs-met n cs ls ks before zero-number
+
+    passes : Passes n cs ls ks
+    passes = number-zero n cs ls ks (met .accepted)
+
+    small : n ≤ 8
+    small = passes .small
+
+    written : cyclesWritten n cs ls ks before ≡ outlinesOf n cs ls ks
+    unfolding cyclesWritten
+    written = written-accepted (tracingNumber n cs ls ks before) (outlinesOf n cs ls ks) zero-number
+
+    cycles-are : r .cycles ≡ length (outlinesOf n cs ls ks)
+    unfolding cycleCount
+    cycles-are = ap (λ (a : Traced). a .cycles) (p .answer) ∙ ap (λ (c : List Cycle). length c) written
+
+    corners-are : r .corners ≡ cornerCount (outlinesOf n cs ls ks)
+    corners-are = ap (λ (a : Traced). a .corners) (p .answer) ∙ ap cornerCount written
+
+    owners-are : after .ownerList ≡ over (owners (outlinesOf n cs ls ks)) (before .ownerList)
+    owners-are = p .in-owners ∙ ap (λ (c : List Cycle). over (owners c) (before .ownerList)) written
+
+    ends-are : after .endList ≡ over (ends (outlinesOf n cs ls ks)) (before .endList)
+    ends-are = p .in-ends ∙ ap (λ (c : List Cycle). over (ends c) (before .endList)) written
+
+    points-are : after .cornerList ≡ over (allCorners (outlinesOf n cs ls ks)) (before .cornerList)
+    points-are = p .in-corners ∙ ap (λ (c : List Cycle). over (allCorners c) (before .cornerList)) written
+
+    labels-are : after .labelList ≡ over (labels n (blocks cs ls ks)) (before .labelList)
+    unfolding labelsLeft
+    labels-are = p .in-labels ∙ ap (λ (l : List ℕ). over l (before .labelList)) (written-accepted (tracingNumber n cs ls ks before) (labels n (blocks cs ls ks)) zero-number)
+
+    work-is : after .workList ≡ over (replicate (2 * 4 ^ n) 0) (before .workList)
+    unfolding zerosLeft
+    work-is = p .in-work ∙ ap (λ (l : List ℕ). over l (before .workList)) (written-accepted (tracingNumber n cs ls ks before) (replicate (2 * 4 ^ n) 0) zero-number)
+
+    regions-are : r .regions ≡ regions n (paint (blocks cs ls ks))
+    unfolding regionsListed
+    regions-are = ap (λ (a : Traced). a .regions) (p .answer) ∙ count-accepted (tracingNumber n cs ls ks before) (regions n (paint (blocks cs ls ks))) zero-number
+
+    -- What the tracing leaves is what the numbering promises.
+    pub as-numbering : Numbering n cs ls ks (before .labelList) (before .workList) (after .labelList) (after .workList) (record { number = 0; regions = r .regions })
+    as-numbering = numbered n cs ls ks (before .labelList) (before .workList) (met .accepted) (met .for-labels) (met .for-work) labels-are work-is regions-are
+
+    -- ---- the lists hold the listing
+
+    cycles-few : length (outlinesOf n cs ls ks) ≤ 4 ^ n
+    unfolding outlinesOf cycleCount
+    cycles-few = cycles-fit n (numbersOf n cs ls ks) (regions n (paint (blocks cs ls ks)))
+
+    corners-few : cornerCount (outlinesOf n cs ls ks) ≤ 4 * 4 ^ n
+    unfolding outlinesOf
+    corners-few = corner-count-fits n (numbersOf n cs ls ks) (regions n (paint (blocks cs ls ks))) small
+
+    pub lists-hold-the-listing : heldAt after r ≡ outlinesOf n cs ls ks
+    lists-hold-the-listing =
+        ap₂ (λ (os es : List ℕ). cyclesHeld os es (after .cornerList) (r .cycles)) owners-are ends-are
+        ∙ ap₂ (λ (ps : List ℕ) (k : ℕ). cyclesHeld (over (owners (outlinesOf n cs ls ks)) (before .ownerList)) (over (ends (outlinesOf n cs ls ks)) (before .endList)) ps k) points-are cycles-are
+        ∙ cycles-read-back (outlinesOf n cs ls ks) (before .ownerList) (before .endList) (before .cornerList)
+        (omega (arith, cycles-few, met .for-ends)) (omega (arith, corners-few, met .for-corners))
+
+    -- The stretch of cycle k is the corners of the k-th cycle.
+    stretch-is : (k : ℕ) → k < r .cycles → stretchOf (after .cornerList) (after .endList) (r .cycles) k ≡ pointsAt (outlinesOf n cs ls ks) k
+    stretch-is k h =
+        ap₂ (λ (ps es : List ℕ). stretchOf ps es (r .cycles) k) points-are ends-are
+        ∙ ap (λ (c : ℕ). stretchOf (over (allCorners (outlinesOf n cs ls ks)) (before .cornerList)) (over (ends (outlinesOf n cs ls ks)) (before .endList)) c k) cycles-are
+        ∙ stretch-is-cycle (outlinesOf n cs ls ks) (before .ownerList) (before .endList) (before .cornerList)
+        (omega (arith, cycles-few, met .for-ends)) (omega (arith, corners-few, met .for-corners)) k (omega (arith, cycles-are))
+
+    owner-is : (k : ℕ) → k < r .cycles → getD (after .ownerList) k 0 ≡ getD (owners (outlinesOf n cs ls ks)) k 0
+    owner-is k h =
+        ap (λ (os : List ℕ). getD os k 0) owners-are
+        ∙ over-inside (owners (outlinesOf n cs ls ks)) (before .ownerList) k (omega (arith, length-owners (outlinesOf n cs ls ks), cycles-are))
+
+    known : (c : ℕ) → c < 4 ^ n → getD (numbersOf n cs ls ks) c 0 < regions n (paint (blocks cs ls ks))
+    known c h = number-below-regions n (paint (blocks cs ls ks)) c h
+
+    end-is-count : (k : ℕ) → suc k ≡ r .cycles → getD (after .endList) k 0 ≡ r .corners
+    end-is-count k e =
+        ap (λ (es : List ℕ). getD es k 0) ends-are
+        ∙ over-inside (ends (outlinesOf n cs ls ks)) (before .endList) k (omega (arith, length-ends (outlinesOf n cs ls ks), cycles-are))
+        ∙ last-end (outlinesOf n cs ls ks) k (e ∙ cycles-are) ∙ sym corners-are
+
+    first-outer : (k : ℕ) → k < r .cycles → ((j : ℕ) → j < k → getD (after .ownerList) j 0 ≢ getD (after .ownerList) k 0)
+        → OuterAt n (numbersOf n cs ls ks) (outlinesOf n cs ls ks) k (getD (startsOf n cs ls ks) k 0)
+    unfolding outlinesOf
+    first-outer k h first =
+        first-is-outer n (numbersOf n cs ls ks) (regions n (paint (blocks cs ls ks))) small k (omega (arith, cycles-are))
+        (λ j i e. first j i (owner-is j (omega arith) ∙ e ∙ sym (owner-is k h)))
+
+    region-first : (v : ℕ) → v < r .regions
+        → (k : ℕ) × (k < r .cycles) × (getD (after .ownerList) k 0 ≡ v) × ((j : ℕ) → j < k → getD (after .ownerList) j 0 ≢ getD (after .ownerList) k 0)
+    unfolding outlinesOf
+    region-first v h =
+        let g : FirstOf n (paint (blocks cs ls ks)) (numbersOf n cs ls ks) v = each-number-given n (paint (blocks cs ls ks)) v (omega (arith, regions-are)) in
+        let w = region-has-first n (numbersOf n cs ls ks) (regions n (paint (blocks cs ls ks))) small (g .pixel) (g .first .inside) (known (g .pixel) (g .first .inside)) in
+        let k : w .0 < r .cycles = omega (arith, w .1, cycles-are) in
+        (w .0, k, owner-is (w .0) k ∙ w .2 ∙ g .value, λ j i e. w .3 j i (sym (owner-is j (omega arith)) ∙ e ∙ owner-is (w .0) k))
+
+    meets : (k i j : ℕ) → k < length (outlinesOf n cs ls ks) → i < length (outline (pointsAt (outlinesOf n cs ls ks) k)) → j < length (outline (pointsAt (outlinesOf n cs ls ks) k)) → i ≢ j
+        → head (getD (outline (pointsAt (outlinesOf n cs ls ks) k)) i 0) ≡ head (getD (outline (pointsAt (outlinesOf n cs ls ks) k)) j 0)
+        → digit (step (regionAt n (numbersOf n cs ls ks)) (getD (outline (pointsAt (outlinesOf n cs ls ks) k)) i 0)) ≡ rightOf (digit (getD (outline (pointsAt (outlinesOf n cs ls ks) k)) i 0))
+    unfolding outlinesOf cycle
+    meets k i j h a b d e =
+        let nums : List ℕ = numbersOf n cs ls ks in
+        let regs : ℕ = regions n (paint (blocks cs ls ks)) in
+        let o = outline-at n nums regs small k h in
+        let g = ring-at n nums regs small k h in
+        let sides : List ℕ = outline (pointsAt (outlinesOf n cs ls ks) k) in
+        let distinct : Distinct sides = subst Distinct (sym o) (g .once) in
+        let on : (x : ℕ) → x < length sides → Edge (regionAt n nums) (suc (getD nums (getD (startsOf n cs ls ks) k 0) 0)) (getD sides x 0) =
+        λ x y. g .edges (getD sides x 0) (subst (In (getD sides x 0)) o (x, y, refl)) in
+        meeting-turns-right (regionAt n nums) (margin n nums small) (suc (getD nums (getD (startsOf n cs ls ks) k 0) 0)) (getD sides i 0) (getD sides j 0)
+        (on i a) (on j b) (λ q. d (one-place sides distinct i j a b q)) e
+
+    starts-long : length (outlinesOf n cs ls ks) ≡ length (startsOf n cs ls ks)
+    unfolding outlinesOf
+    starts-long = listing-length n (numbersOf n cs ls ks) (regions n (paint (blocks cs ls ks)))
+
+    listed : OutlinesListed n (numbersOf n cs ls ks) (outlinesOf n cs ls ks) (startsOf n cs ls ks)
+    unfolding outlinesOf
+    listed = all-outlines-listed n (numbersOf n cs ls ks) (regions n (paint (blocks cs ls ks))) small known
+
+    once : SidesOnce (regionAt n (numbersOf n cs ls ks)) (outlinesOf n cs ls ks)
+    unfolding outlinesOf
+    once = each-side-once n (numbersOf n cs ls ks) (regions n (paint (blocks cs ls ks))) small known
+
+    points-are-corners : (k : ℕ) → k < length (outlinesOf n cs ls ks) → pointsAt (outlinesOf n cs ls ks) k ≡ corners (cycle n (numbersOf n cs ls ks) (getD (startsOf n cs ls ks) k 0))
+    unfolding outlinesOf
+    points-are-corners k h = points-at n (numbersOf n cs ls ks) (regions n (paint (blocks cs ls ks))) k (omega (arith, starts-long))
+
+    form : (k : ℕ) → k < length (outlinesOf n cs ls ks) → cycleForm (pointsAt (outlinesOf n cs ls ks) k) ≡ true
+    unfolding outlinesOf
+    form k h = listed-is-cycle-form n (numbersOf n cs ls ks) (regions n (paint (blocks cs ls ks))) small k h
+
+    corner-length : (i : ℕ) → r .corners ≤ i → length (allCorners (outlinesOf n cs ls ks)) ≤ i
+    unfolding cornerCount
+    corner-length i h = omega (arith, corners-are)
+
+    zeros-long : length {A = ℕ} (replicate (2 * 4 ^ n) 0) ≡ 2 * 4 ^ n
+    zeros-long = length-replicate (2 * 4 ^ n) 0
+
+    -- All of it.
+    pub accepted-at-exit : AtExit n cs ls ks before after r
+    accepted-at-exit = record {
+      region-count = regions-are;
+      cycle-count = cycles-are ∙ starts-long;
+      corner-count = corners-are ∙ ap cornerCount (sym lists-hold-the-listing);
+      last-end-is-count = end-is-count;
+      few-cycles = omega (arith, cycles-are, cycles-few);
+      few-corners = omega (arith, corners-are, corners-few);
+      numbers-by-labels =
+          no-other-by-least-codes n (paint (blocks cs ls ks)) (tabulate (4 ^ n) (labelOfPixel (blocks cs ls ks) (after .labelList))) (r .regions)
+          (labels-by-least-codes as-numbering refl) .0;
+      lists = lists-hold-the-listing;
+      outlines = subst (λ (c : List Cycle). OutlinesListed n (numbersOf n cs ls ks) c (startsOf n cs ls ks)) (sym lists-hold-the-listing) listed;
+      sides = subst (SidesOnce (regionAt n (numbersOf n cs ls ks))) (sym lists-hold-the-listing) once;
+      stretch = λ k h. stretch-is k h ∙ points-are-corners k (omega (arith, cycles-are));
+      cycle-form = λ k h. ap cycleForm (stretch-is k h) ∙ form k (omega (arith, cycles-are));
+      outer = λ k h first. subst (λ (c : List Cycle). OuterAt n (numbersOf n cs ls ks) c k (getD (startsOf n cs ls ks) k 0)) (sym lists-hold-the-listing) (first-outer k h first);
+      each-region = region-first;
+      meeting = λ k i j h.
+          subst (λ (c : List Cycle).
+            i < length (outline (pointsAt c k)) → j < length (outline (pointsAt c k)) → i ≢ j
+            → head (getD (outline (pointsAt c k)) i 0) ≡ head (getD (outline (pointsAt c k)) j 0)
+            → digit (step (regionAt n (numbersOf n cs ls ks)) (getD (outline (pointsAt c k)) i 0)) ≡ rightOf (digit (getD (outline (pointsAt c k)) i 0)))
+          (sym lists-hold-the-listing) (meets k i j (omega (arith, cycles-are)));
+      work-cleared = λ i h.
+          ap (λ (w : List ℕ). getD w i 0) work-is ∙ over-inside (replicate (2 * 4 ^ n) 0) (before .workList) i (omega (arith, zeros-long)) ∙ getD-replicate (2 * 4 ^ n) i 0 0 h;
+      work-kept = λ i h. ap (λ (w : List ℕ). getD w i 0) work-is ∙ over-beyond (replicate (2 * 4 ^ n) 0) (before .workList) i (omega (arith, zeros-long));
+      labels-kept = λ i h.
+          ap (λ (w : List ℕ). getD w i 0) labels-are
+          ∙ over-beyond (labels n (blocks cs ls ks)) (before .labelList) i (omega (arith, length-labels n (blocks cs ls ks), count passes));
+      owners-kept = λ i h.
+          ap (λ (w : List ℕ). getD w i 0) owners-are
+          ∙ over-beyond (owners (outlinesOf n cs ls ks)) (before .ownerList) i (omega (arith, length-owners (outlinesOf n cs ls ks), cycles-are));
+      ends-kept = λ i h.
+          ap (λ (w : List ℕ). getD w i 0) ends-are
+          ∙ over-beyond (ends (outlinesOf n cs ls ks)) (before .endList) i (omega (arith, length-ends (outlinesOf n cs ls ks), cycles-are));
+      corners-kept = λ i h. ap (λ (w : List ℕ). getD w i 0) points-are ∙ over-beyond (allCorners (outlinesOf n cs ls ks)) (before .cornerList) i (corner-length i h);
+    }

@@ -1,0 +1,1 @@
+// What the tracing's promise says where a caller stands: theory only.
