@@ -124,7 +124,17 @@ pub extern "C" fn nettlestair_trace(
 ) -> Traced
     ensures { λ r. ⌜ Tracing n (now (codes .entry)) (now (levels .entry)) (now (colours .entry)) (lent (now (labels .entry)) (now (work .entry)) (now (owners .entry)) (now (ends .entry)) (now (corners .entry))) (lent (now (labels .exit)) (now (work .exit)) (now (owners .exit)) (now (ends .exit)) (now (corners .exit))) (record { number = r .number; regions = r .regions; cycles = r .cycles; corners = r .corners }) ⌝ }
 {
-    let r = tracing::trace(n, codes, levels, colours, labels, work, owners, ends, corners);
+    let r = tracing::trace(
+        n,
+        codes,
+        levels,
+        colours,
+        labels,
+        work,
+        owners,
+        ends,
+        corners,
+    );
     Traced {
         number: r.number,
         regions: r.regions,
