@@ -16,7 +16,17 @@ fn write_outlines(n: u32, codes: &[u32], levels: &[u8], colours: &[u8], text: &m
     let mut owners = [0u32; 4096];
     let mut ends = [0u32; 4096];
     let mut corners = [0u32; 16384];
-    let traced = tracing::trace(n, codes, levels, colours, &mut labels, &mut work, &mut owners, &mut ends, &mut corners);
+    let traced = tracing::trace(
+        n,
+        codes,
+        levels,
+        colours,
+        &mut labels,
+        &mut work,
+        &mut owners,
+        &mut ends,
+        &mut corners,
+    );
     lines::write(&owners, &ends, &corners, traced.cycles, text)
 }
 
@@ -30,5 +40,11 @@ pub(crate) fn write_picture(n: u32, raster: &[u8], text: &mut [u8]) -> usize
     let mut colours = [0u8; 4096];
     let merged = blocks::from_raster(n, raster, &mut codes, &mut levels, &mut colours);
     let count = merged.count as usize;
-    write_outlines(n, &codes[..count], &levels[..count], &colours[..count], text)
+    write_outlines(
+        n,
+        &codes[..count],
+        &levels[..count],
+        &colours[..count],
+        text,
+    )
 }
