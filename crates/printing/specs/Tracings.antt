@@ -1,14 +1,14 @@
 -- What the promise of the tracing says where all its needs are met: the lists hold the outlines of the image.
 use mathlib.Core.Path.{_≡_, sym, ap, _∙_}
 use mathlib.Core.List.{List}
-use Prim.Native.Nat.{ℕ, _*_, _^_, _≤_}
+use Prim.Native.Nat.{ℕ, _^_, _≤_}
 use native.Mathlib.Omega.{arith}
 use lib.ListN.{length}
 use Rattle.sequences.specs.Cases.{written-accepted}
 use Rattle.sequences.specs.Over.{over}
 use Rattle.quadtree.specs.Blocks.{blocks, paint}
 use Rattle.grid.specs.Listing.{Cycle, owners, ends, allCorners, cycleCount}
-use Rattle.tracing.specs.Tracing.{Lent, lent, tracingNumber, outlinesOf, cyclesWritten, Tracing, none-short}
+use Rattle.tracing.specs.Tracing.{Lent, tracingNumber, outlinesOf, cyclesWritten, Tracing, none-short}
 use Rattle.tracing.specs.declared.Traced.{Traced}
 use Rattle.printing.specs.Outlines.{imageOutlines}
 use Rattle.printing.specs.Picturing.{Traceable, few-pixels, Outlined}
