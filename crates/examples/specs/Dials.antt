@@ -1,0 +1,132 @@
+-- A dial: a block list, and what is said of it, as equations and as tests that compute.
+use mathlib.Core.Path.{_≡_, refl, ap₂}
+use mathlib.Core.Bool.{Bool, true, false, _&&_, false≢true}
+use mathlib.Core.List.{List, [], _∷_}
+use Prim.Native.Nat.{ℕ}
+use lib.ListN.{getD}
+use lib.Dec.{eqb}
+use borrow.Author.Tests.{eqb-true}
+use Rattle.quadtree.specs.Blocks.{blocks, paint}
+use Rattle.quadtree.specs.Number.{number}
+use Rattle.components.specs.Numbers.{numbers, regions, labels}
+use Rattle.lattice.specs.Tests.{and-both}
+use Rattle.grid.specs.Listing.{Cycle, listing, owners, ends, allCorners, pointsAt, cycleCount, cornerCount}
+use Rattle.paths.specs.Chain.{chainOf}
+use Rattle.printing.specs.Lines.{dataOf}
+
+-- What is said of a block list:
+-- the number that the check answers;
+-- the region number of each block;
+-- the counts of regions, of cycles and of corners;
+-- the owners, the ends and the corners of the outlines;
+-- of a region, the path data of its cycles joined;
+-- of a cycle, its first corner and its chain.
+pub data Saying : Type 0 where
+  answer : ℕ → Saying
+  labelled : List ℕ → Saying
+  counted : ℕ → ℕ → ℕ → Saying
+  outlined : List ℕ → List ℕ → List ℕ → Saying
+  path : ℕ → List ℕ → Saying
+  chain : ℕ → ℕ → List ℕ → Saying
+
+pub record Dial : Type 0 where
+  pub n : ℕ
+  pub codes : List ℕ
+  pub levels : List ℕ
+  pub colours : List ℕ
+  pub says : List Saying
+
+-- The colours of a dial's pixels, and its outlines.
+unfoldable pub pixelsOf : Dial → List ℕ
+unfolding paint blocks
+pixelsOf d = paint (blocks (d .codes) (d .levels) (d .colours))
+
+unfoldable pub outlinesOf : Dial → List Cycle
+unfolding listing numbers regions pixelsOf
+outlinesOf d = listing (d .n) (numbers (d .n) (pixelsOf d)) (regions (d .n) (pixelsOf d))
+
+-- A saying, as equations.
+abbrev pub Holds : Dial → Saying → Type 0
+Holds d (answer k) = number (d .n) (d .codes) (d .levels) (d .colours) ≡ k
+Holds d (labelled ls) = labels (d .n) (blocks (d .codes) (d .levels) (d .colours)) ≡ ls
+Holds d (counted r c k) = (regions (d .n) (pixelsOf d) ≡ r) × (cycleCount (outlinesOf d) ≡ c) × (cornerCount (outlinesOf d) ≡ k)
+Holds d (outlined os es cs) = (owners (outlinesOf d) ≡ os) × (ends (outlinesOf d) ≡ es) × (allCorners (outlinesOf d) ≡ cs)
+Holds d (path r bytes) = dataOf r (outlinesOf d) ≡ bytes
+Holds d (chain k p bytes) = (getD (pointsAt (outlinesOf d) k) 0 0 ≡ p) × (chainOf (pointsAt (outlinesOf d) k) ≡ bytes)
+
+-- All that is said of a dial, and of each dial of a table.
+abbrev pub Each : Dial → List Saying → Type 0
+Each d [] = Unit {0}
+Each d (s ∷ ss) = Holds d s × Each d ss
+
+abbrev pub AllHold : List Dial → Type 0
+AllHold [] = Unit {0}
+AllHold (d ∷ ds) = Each d (d .says) × AllHold ds
+
+-- ---- the same, computed
+
+unfoldable pub same : List ℕ → List ℕ → Bool
+same [] [] = true
+same [] (y ∷ ys) = false
+same (x ∷ xs) [] = false
+same (x ∷ xs) (y ∷ ys) = eqb x y && same xs ys
+
+unfoldable pub holds : Dial → Saying → Bool
+unfolding number labels blocks regions pixelsOf outlinesOf cycleCount cornerCount owners ends allCorners pointsAt dataOf chainOf same
+holds d (answer k) = eqb (number (d .n) (d .codes) (d .levels) (d .colours)) k
+holds d (labelled ls) = same (labels (d .n) (blocks (d .codes) (d .levels) (d .colours))) ls
+holds d (counted r c k) = eqb (regions (d .n) (pixelsOf d)) r && (eqb (cycleCount (outlinesOf d)) c && eqb (cornerCount (outlinesOf d)) k)
+holds d (outlined os es cs) = same (owners (outlinesOf d)) os && (same (ends (outlinesOf d)) es && same (allCorners (outlinesOf d)) cs)
+holds d (path r bytes) = same (dataOf r (outlinesOf d)) bytes
+holds d (chain k p bytes) = eqb (getD (pointsAt (outlinesOf d) k) 0 0) p && same (chainOf (pointsAt (outlinesOf d) k)) bytes
+
+unfoldable pub each : Dial → List Saying → Bool
+unfolding holds
+each d [] = true
+each d (s ∷ ss) = holds d s && each d ss
+
+unfoldable pub allHold : List Dial → Bool
+unfolding each
+allHold [] = true
+allHold (d ∷ ds) = each d (d .says) && allHold ds
+
+-- A test that is passed gives the equations.
+pub same-says : (xs ys : List ℕ) → same xs ys ≡ true → xs ≡ ys
+unfolding same
+same-says [] [] h = refl
+same-says [] (y ∷ ys) h = absurd (false≢true h)
+same-says (x ∷ xs) [] h = absurd (false≢true h)
+same-says (x ∷ xs) (y ∷ ys) h =
+    let b = and-both (eqb x y) (same xs ys) h in
+    ap₂ {A = ℕ} {B = List ℕ} (λ z zs. z ∷ zs) (eqb-true x y (b .0)) (same-says xs ys (b .1))
+
+pub holds-says : (d : Dial) (s : Saying) → holds d s ≡ true → Holds d s
+unfolding holds
+holds-says d (answer k) h = eqb-true (number (d .n) (d .codes) (d .levels) (d .colours)) k h
+holds-says d (labelled ls) h = same-says (labels (d .n) (blocks (d .codes) (d .levels) (d .colours))) ls h
+holds-says d (counted r c k) h =
+    let a = and-both (eqb (regions (d .n) (pixelsOf d)) r) (eqb (cycleCount (outlinesOf d)) c && eqb (cornerCount (outlinesOf d)) k) h in
+    let b = and-both (eqb (cycleCount (outlinesOf d)) c) (eqb (cornerCount (outlinesOf d)) k) (a .1) in
+    (eqb-true (regions (d .n) (pixelsOf d)) r (a .0), eqb-true (cycleCount (outlinesOf d)) c (b .0), eqb-true (cornerCount (outlinesOf d)) k (b .1))
+holds-says d (outlined os es cs) h =
+    let a = and-both (same (owners (outlinesOf d)) os) (same (ends (outlinesOf d)) es && same (allCorners (outlinesOf d)) cs) h in
+    let b = and-both (same (ends (outlinesOf d)) es) (same (allCorners (outlinesOf d)) cs) (a .1) in
+    (same-says (owners (outlinesOf d)) os (a .0), same-says (ends (outlinesOf d)) es (b .0), same-says (allCorners (outlinesOf d)) cs (b .1))
+holds-says d (path r bytes) h = same-says (dataOf r (outlinesOf d)) bytes h
+holds-says d (chain k p bytes) h =
+    let a = and-both (eqb (getD (pointsAt (outlinesOf d) k) 0 0) p) (same (chainOf (pointsAt (outlinesOf d) k)) bytes) h in
+    (eqb-true (getD (pointsAt (outlinesOf d) k) 0 0) p (a .0), same-says (chainOf (pointsAt (outlinesOf d) k)) bytes (a .1))
+
+pub each-says : (d : Dial) (ss : List Saying) → each d ss ≡ true → Each d ss
+unfolding each
+each-says d [] h = tt
+each-says d (s ∷ ss) h =
+    let b = and-both (holds d s) (each d ss) h in
+    (holds-says d s (b .0), each-says d ss (b .1))
+
+pub all-say : (ds : List Dial) → allHold ds ≡ true → AllHold ds
+unfolding allHold
+all-say [] h = tt
+all-say (d ∷ ds) h =
+    let b = and-both (each d (d .says)) (allHold ds) h in
+    (each-says d (d .says) (b .0), all-say ds (b .1))

@@ -1,0 +1,3 @@
+-- Dials to try.
+pub mod Dials
+pub mod Table
