@@ -24,6 +24,14 @@ struct nettlestair_numbered {
     uint32_t regions;
 };
 
+/* What tracing answers: its number, and how many regions, cycles and corners there are. */
+struct nettlestair_traced {
+    uint32_t number;
+    uint32_t regions;
+    uint32_t cycles;
+    uint32_t corners;
+};
+
 /* A part of a lent list: its place and its length in entries. */
 struct nettlestair_stretch {
     size_t start;
@@ -61,6 +69,15 @@ struct nettlestair_written nettlestair_raster_from_blocks(uint32_t n, const uint
 struct nettlestair_numbered nettlestair_number(uint32_t n, const uint32_t *codes, size_t codes_len, const uint8_t *levels,
                                                size_t levels_len, const uint8_t *colours, size_t colours_len,
                                                uint32_t *labels, size_t labels_len, uint32_t *work, size_t work_len);
+
+/* The outlines of all regions: 0, or 1 to 8. Labels and work list are as for nettlestair_number. For each cycle the owners hold
+   its region and the ends the index after its last corner; the corners, y times 512 plus x each, stand cycle after cycle. Owners
+   and ends have room for 4^n entries each, the corners for 4 times 4^n; those after the counts stay as they were. */
+struct nettlestair_traced nettlestair_trace(uint32_t n, const uint32_t *codes, size_t codes_len, const uint8_t *levels,
+                                            size_t levels_len, const uint8_t *colours, size_t colours_len,
+                                            uint32_t *labels, size_t labels_len, uint32_t *work, size_t work_len,
+                                            uint32_t *owners, size_t owners_len, uint32_t *ends, size_t ends_len,
+                                            uint32_t *corners, size_t corners_len);
 
 /* Where the corners of cycle k stand in a corner list, by an end list and a cycle count; {0, 0} where there are none. */
 struct nettlestair_stretch nettlestair_cycle(const uint32_t *corners, size_t corners_len, const uint32_t *ends,

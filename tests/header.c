@@ -47,6 +47,23 @@ int main(void) {
     d = nettlestair_number(2, codes, 7, levels, 7, colours, 7, labels, 6, work, 33);
     expect("numbers, too short", d.number == 8 && d.regions == 0);
 
+    const uint32_t regions[3] = {0, 1, 2}, after[3] = {10, 14, 18};
+    const uint32_t points[18] = {0,    4,   1028, 1026, 514,  513,  1025, 1026, 2050, 2048,
+                                 513, 514, 1026, 1025, 1026, 1028, 2052, 2050};
+    uint32_t owners[16], cycles[16], outlines[65];
+    memset(owners, 99, sizeof owners);
+    memset(outlines, 99, sizeof outlines);
+    struct nettlestair_traced t =
+        nettlestair_trace(2, codes, 7, levels, 7, colours, 7, labels, 8, work, 33, owners, 16, cycles, 16, outlines, 65);
+    expect("outlines, answer", t.number == 0 && t.regions == 3 && t.cycles == 3 && t.corners == 18);
+    expect("outlines, labels", !memcmp(labels, numbers, sizeof numbers) && labels[7] == 0x63636363);
+    expect("outlines, work", !memcmp(work, zeros, sizeof zeros) && work[32] == 0x63636363);
+    expect("outlines, owners", !memcmp(owners, regions, sizeof regions) && owners[3] == 0x63636363);
+    expect("outlines, ends", !memcmp(cycles, after, sizeof after));
+    expect("outlines, corners", !memcmp(outlines, points, sizeof points) && outlines[18] == 0x63636363);
+    t = nettlestair_trace(2, codes, 7, levels, 7, colours, 7, labels, 8, work, 33, owners, 16, cycles, 16, outlines, 63);
+    expect("outlines, too short", t.number == 8 && t.regions == 0 && t.cycles == 0 && t.corners == 0);
+
     /* dial 1 */
     const uint32_t square[4] = {0, 1, 513, 512};
     uint8_t text[25], chain[4];

@@ -2,7 +2,7 @@
 
 use crate::compare::difference;
 use crate::lent::{Entry, Lent};
-use crate::library::{self, refused, Numbered, Written};
+use crate::library::{self, refused, Numbered, Traced, Written};
 use crate::model::blocks::Blocks;
 use crate::random::Random;
 use std::fmt::{Debug, Display};
@@ -113,6 +113,16 @@ pub fn number(random: &mut Random, n: u32, blocks: &Blocks, lengths: [usize; 2])
     let [labels, work] = lists.each_mut().map(Lent::lend);
     let answer =
         handed_in(blocks, |Blocks { codes, levels, colours }| library::number(n, codes, levels, colours, labels, work));
+    Called { answer, lists }
+}
+
+/// Tracing, with label, work, owner, end and corner lists of the given lengths.
+pub fn trace(random: &mut Random, n: u32, blocks: &Blocks, lengths: [usize; 5]) -> Called<Traced, 5> {
+    let mut lists = lengths.map(|length| Lent::new(random, length));
+    let [labels, work, owners, ends, corners] = lists.each_mut().map(Lent::lend);
+    let answer = handed_in(blocks, |Blocks { codes, levels, colours }| {
+        library::trace(n, codes, levels, colours, labels, work, owners, ends, corners)
+    });
     Called { answer, lists }
 }
 

@@ -16,6 +16,16 @@ pub struct Numbered {
     pub regions: u32,
 }
 
+/// What tracing answers: its number, and how many regions, cycles and corners there are.
+#[repr(C)]
+#[derive(Clone, Copy, Debug, PartialEq, Eq)]
+pub struct Traced {
+    pub number: u32,
+    pub regions: u32,
+    pub cycles: u32,
+    pub corners: u32,
+}
+
 /// A part of a lent list, by its place and length.
 #[repr(C)]
 #[derive(Clone, Copy, Debug, PartialEq, Eq)]
@@ -88,6 +98,26 @@ extern "C" {
         work: *mut u32,
         work_len: usize,
     ) -> Numbered;
+
+    fn nettlestair_trace(
+        n: u32,
+        codes: *const u32,
+        codes_len: usize,
+        levels: *const u8,
+        levels_len: usize,
+        colours: *const u8,
+        colours_len: usize,
+        labels: *mut u32,
+        labels_len: usize,
+        work: *mut u32,
+        work_len: usize,
+        owners: *mut u32,
+        owners_len: usize,
+        ends: *mut u32,
+        ends_len: usize,
+        corners: *mut u32,
+        corners_len: usize,
+    ) -> Traced;
 
     fn nettlestair_cycle(
         corners: *const u32,
@@ -181,6 +211,43 @@ pub fn number(n: u32, codes: &[u32], levels: &[u8], colours: &[u8], labels: &mut
             labels.len(),
             work.as_mut_ptr(),
             work.len(),
+        )
+    }
+}
+
+/// The outlines of all regions: labels, owners, ends and corners, written to the five lists.
+#[allow(clippy::too_many_arguments)]
+pub fn trace(
+    n: u32,
+    codes: &[u32],
+    levels: &[u8],
+    colours: &[u8],
+    labels: &mut [u32],
+    work: &mut [u32],
+    owners: &mut [u32],
+    ends: &mut [u32],
+    corners: &mut [u32],
+) -> Traced {
+    // Each pointer comes with the length of its slice.
+    unsafe {
+        nettlestair_trace(
+            n,
+            codes.as_ptr(),
+            codes.len(),
+            levels.as_ptr(),
+            levels.len(),
+            colours.as_ptr(),
+            colours.len(),
+            labels.as_mut_ptr(),
+            labels.len(),
+            work.as_mut_ptr(),
+            work.len(),
+            owners.as_mut_ptr(),
+            owners.len(),
+            ends.as_mut_ptr(),
+            ends.len(),
+            corners.as_mut_ptr(),
+            corners.len(),
         )
     }
 }

@@ -81,7 +81,7 @@ pub fn structured(random: &mut Random, n: u32) -> Vec<(&'static str, Vec<u8>)> {
         ("diagonal chain", drawn(n, |x, y| usize::from(x == y))),
         ("diagonal chain, the other way", drawn(n, |x, y| usize::from(x + y == last))),
         ("diagonal chains", drawn(n, |x, y| usize::from((x + y) % 3 == 0))),
-        ("diagonal stairs", drawn(n, |x, y| (x + y) / 2 & 1)),
+        ("diagonal stairs", drawn(n, |x, y| ((x + y) / 2) & 1)),
         ("pixels apart, each a hole", drawn(n, |x, y| x & y & 1)),
         ("nested triangles", drawn(n, |x, y| usize::from(x & y == 0))),
     ]

@@ -1,7 +1,7 @@
 //! Causes 1 to 8 of block lists: each alone, each pair that can occur together, and their order.
 
 use std::collections::BTreeSet;
-use tests::calls::{agrees, number as numbering, raster_from_blocks};
+use tests::calls::{agrees, number as numbering, raster_from_blocks, trace};
 use tests::cases::Cases;
 use tests::expected::{needs, Model};
 use tests::faults;
@@ -10,8 +10,8 @@ use tests::model::blocks::{conditions, number, paint, quadtree, Blocks};
 use tests::random::Random;
 use tests::rasters;
 
-/// Holds the check, blocks to raster and numbering to one number, with lists that are long enough and with shorter ones: 8 is
-/// looked for after 1 to 7.
+/// Holds the check, blocks to raster, numbering and tracing to one number, with lists that are long enough and with shorter
+/// ones: 8 is looked for after 1 to 7.
 fn judged(what: &str, random: &mut Random, n: u32, blocks: &Blocks, expected: u32) {
     let Blocks { codes, levels, colours } = blocks;
     assert_eq!(check(n, codes, levels, colours), expected, "{what}: check of n = {n}, {blocks}");
@@ -32,6 +32,12 @@ fn judged(what: &str, random: &mut Random, n: u32, blocks: &Blocks, expected: u3
         let called = numbering(random, n, blocks, lengths);
         let difference = called.difference(&model.numbering(lengths));
         agrees(format_args!("{what}: numbers with lists of {lengths:?} from n = {n}, {blocks}"), difference);
+    }
+    let need = needs(n, blocks.len());
+    for lengths in [need, need.map(|need| need.max(1) - 1), [0; 5]] {
+        let called = trace(random, n, blocks, lengths);
+        let difference = called.difference(&model.tracing(lengths));
+        agrees(format_args!("{what}: outlines with lists of {lengths:?} from n = {n}, {blocks}"), difference);
     }
 }
 

@@ -22,11 +22,12 @@ use tests::rasters;
 type Try = fn(random: &mut Random, wrong: u32) -> (u32, Option<String>);
 
 /// Each function with the numbers that it can answer; the stretch of a cycle has none.
-const FUNCTIONS: [(&str, Try, &[u32]); 9] = [
+const FUNCTIONS: [(&str, Try, &[u32]); 10] = [
     ("fuzzing, check", check, &[0, 1, 2, 3, 4, 5, 6, 7]),
     ("fuzzing, raster to blocks", blocks_from_raster, &[0, 1, 8, 9]),
     ("fuzzing, blocks to raster", raster_from_blocks, &[0, 1, 2, 3, 4, 5, 6, 7, 8]),
     ("fuzzing, numbers", numbering, &[0, 1, 2, 3, 4, 5, 6, 7, 8]),
+    ("fuzzing, outlines", tracing, &[0, 1, 2, 3, 4, 5, 6, 7, 8]),
     ("fuzzing, stretches", cycle, &[0]),
     ("fuzzing, path data", svg, &[0, 8, 16]),
     ("fuzzing, chains", chain, &[0, 8, 16]),
@@ -166,6 +167,16 @@ fn numbering(random: &mut Random, wrong: u32) -> (u32, Option<String>) {
     let expected = Model::of(n, &blocks).numbering(lengths);
     let Called { mut answer, lists } = calls::number(random, n, &blocks, lengths);
     answer.regions += wrong;
+    let difference = Called { answer, lists }.difference(&expected);
+    (expected.answer.number, difference.map(|d| format!("n = {n}, {blocks}, lengths {lengths:?}: {d}")))
+}
+
+fn tracing(random: &mut Random, wrong: u32) -> (u32, Option<String>) {
+    let (n, blocks) = block_list(random);
+    let lengths = needs(n, blocks.len()).map(|need| length(random, need));
+    let expected = Model::of(n, &blocks).tracing(lengths);
+    let Called { mut answer, lists } = calls::trace(random, n, &blocks, lengths);
+    answer.cycles += wrong;
     let difference = Called { answer, lists }.difference(&expected);
     (expected.answer.number, difference.map(|d| format!("n = {n}, {blocks}, lengths {lengths:?}: {d}")))
 }

@@ -64,13 +64,14 @@ fn faults_of_functions(cell: &str) -> Vec<String> {
     functions.filter(missing).map(|word| format!("{word} is no public function")).collect()
 }
 
-/// An edit is a file's name, after its crate's where two crates have one of that name.
+/// An edit is a file's name, or its whole path where two crates have one of that name.
 fn faults_of_edits(cell: &str) -> Vec<String> {
     let fault = |word: &str| {
-        let (crate_name, name) = word.split_once('/').unwrap_or(("", word));
         let folders = files(&repository().join("crates"));
-        let holders = folders.iter().filter(|folder| crate_name.is_empty() || folder.ends_with(crate_name));
-        let count = holders.filter(|folder| folder.join("must-fail").join(name).exists()).count();
+        let count = match word.contains('/') {
+            true => usize::from(repository().join(word).exists()),
+            false => folders.iter().filter(|folder| folder.join("must-fail").join(word).exists()).count(),
+        };
         (count != 1).then(|| format!("{word} is in {count} crates"))
     };
     quoted(cell).into_iter().filter_map(fault).collect()

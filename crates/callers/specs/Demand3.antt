@@ -312,9 +312,9 @@ module _ {n : ℕ} {cs ls ks : List ℕ} {before after : Lent} {r : Traced} (p :
       each-region = region-first;
       meeting = λ k i j h.
           subst (λ (c : List Cycle).
-            i < length (outline (pointsAt c k)) → j < length (outline (pointsAt c k)) → i ≢ j
-            → head (getD (outline (pointsAt c k)) i 0) ≡ head (getD (outline (pointsAt c k)) j 0)
-            → digit (step (regionAt n (numbersOf n cs ls ks)) (getD (outline (pointsAt c k)) i 0)) ≡ rightOf (digit (getD (outline (pointsAt c k)) i 0)))
+          i < length (outline (pointsAt c k)) → j < length (outline (pointsAt c k)) → i ≢ j
+          → head (getD (outline (pointsAt c k)) i 0) ≡ head (getD (outline (pointsAt c k)) j 0)
+          → digit (step (regionAt n (numbersOf n cs ls ks)) (getD (outline (pointsAt c k)) i 0)) ≡ rightOf (digit (getD (outline (pointsAt c k)) i 0)))
           (sym lists-hold-the-listing) (meets k i j (omega (arith, cycles-are)));
       work-cleared = λ i h.
           ap (λ (w : List ℕ). getD w i 0) work-is ∙ over-inside (replicate (2 * 4 ^ n) 0) (before .workList) i (omega (arith, zeros-long)) ∙ getD-replicate (2 * 4 ^ n) i 0 0 h;

@@ -67,10 +67,10 @@ module _ (l : List Cycle) (os es cs : List ℕ) (for-ends : length l ≤ length 
       ext-getD none (cyclesHeld (over (owners l) os) (over (ends l) es) (over (allCorners l) cs) (length l)) l
       (length-map (range 0 (length l)) (cycleHeld (over (owners l) os) (over (ends l) es) (over (allCorners l) cs) (length l)) ∙ length-range 0 (length l))
       (λ k h.
-        let i : k < length l =
-        omega (arith, length-map (range 0 (length l)) (cycleHeld (over (owners l) os) (over (ends l) es) (over (allCorners l) cs) (length l)), length-range 0 (length l)) in
-        let z : 0 + k ≡ k = omega arith in
-        held-from (cycleHeld (over (owners l) os) (over (ends l) es) (over (allCorners l) cs) (length l)) 0 (length l) k i
-        ∙ ap (cycleHeld (over (owners l) os) (over (ends l) es) (over (allCorners l) cs) (length l)) z
-        ∙ (λ j. record { region = over-inside (owners l) os k (omega (arith, length-owners l)) j; points = stretch-is-cycle k i j })
-        ∙ sym (cycle-by-parts l k i))
+      let i : k < length l =
+      omega (arith, length-map (range 0 (length l)) (cycleHeld (over (owners l) os) (over (ends l) es) (over (allCorners l) cs) (length l)), length-range 0 (length l)) in
+      let z : 0 + k ≡ k = omega arith in
+      held-from (cycleHeld (over (owners l) os) (over (ends l) es) (over (allCorners l) cs) (length l)) 0 (length l) k i
+      ∙ ap (cycleHeld (over (owners l) os) (over (ends l) es) (over (allCorners l) cs) (length l)) z
+      ∙ (λ j. record { region = over-inside (owners l) os k (omega (arith, length-owners l)) j; points = stretch-is-cycle k i j })
+      ∙ sym (cycle-by-parts l k i))

@@ -1,174 +1,132 @@
--- "Dials 1 to 12, without the printing, are proved about the definitions as one table under one theorem" (document 01, "Agreement").
-use mathlib.Core.Path.{_≡_, refl}
-use mathlib.Core.List.{List, [], _∷_, map}
+-- A dial: a block list, and what is said of it, as equations and as tests that compute.
+use mathlib.Core.Path.{_≡_, refl, ap₂}
+use mathlib.Core.Bool.{Bool, true, false, _&&_, false≢true}
+use mathlib.Core.List.{List, [], _∷_}
 use Prim.Native.Nat.{ℕ}
-use Rattle.lattice.specs.Tests.{isEven}
-use Rattle.lattice.specs.Directions.{point, xOf, yOf, digit}
-use Rattle.lattice.specs.Walks.{outline}
-use Rattle.quadtree.specs.Blocks.{blocks}
+use lib.ListN.{getD}
+use lib.Dec.{eqb}
+use borrow.Author.Tests.{eqb-true}
+use Rattle.quadtree.specs.Blocks.{blocks, paint}
 use Rattle.quadtree.specs.Number.{number}
-use Rattle.components.specs.Numbers.{labels}
-use Rattle.grid.specs.Listing.{Cycle, owners, ends, allCorners}
-use Rattle.paths.specs.Decimal.{decimal}
-use Rattle.paths.specs.Svg.{pathData}
-use Rattle.paths.specs.Chain.{byteOf, bytesOf, chainOf}
-use Rattle.tracing.specs.Tracing.{outlinesOf}
+use Rattle.components.specs.Numbers.{numbers, regions, labels}
+use Rattle.lattice.specs.Tests.{and-both}
+use Rattle.grid.specs.Listing.{Cycle, listing, owners, ends, allCorners, pointsAt, cycleCount, cornerCount}
+use Rattle.paths.specs.Chain.{chainOf}
+use Rattle.printing.specs.Lines.{dataOf}
 
--- What an accepted dial draws: the labels of its blocks, the owners, ends and corners of its cycles, and each cycle's path data and chain.
-pub record Drawing : Type 0 where
-  pub labels : List ℕ
-  pub owners : List ℕ
-  pub ends : List ℕ
-  pub corners : List ℕ
-  pub paths : List (List ℕ)
-  pub chains : List (List ℕ)
+-- What is said of a block list:
+-- the number that the check answers;
+-- the region number of each block;
+-- the counts of regions, of cycles and of corners;
+-- the owners, the ends and the corners of the outlines;
+-- of a region, the path data of its cycles joined;
+-- of a cycle, its first corner and its chain.
+pub data Saying : Type 0 where
+  answer : ℕ → Saying
+  labelled : List ℕ → Saying
+  counted : ℕ → ℕ → ℕ → Saying
+  outlined : List ℕ → List ℕ → List ℕ → Saying
+  path : ℕ → List ℕ → Saying
+  chain : ℕ → ℕ → List ℕ → Saying
 
--- A dial: its block list, the number of the list, and what is drawn, where that is said.
 pub record Dial : Type 0 where
   pub n : ℕ
   pub codes : List ℕ
   pub levels : List ℕ
   pub colours : List ℕ
-  pub number : ℕ
-  pub drawn : List Drawing
+  pub says : List Saying
 
--- By the definitions that the contracts of the check, the numbering, the tracing, the path data and the chain cite.
-unfoldable pub drawingOf : ℕ → List ℕ → List ℕ → List ℕ → Drawing
-unfolding labels blocks outlinesOf owners ends allCorners pathData chainOf
-drawingOf n cs ls ks =
-    let l = outlinesOf n cs ls ks in
-    record {
-      labels = labels n (blocks cs ls ks);
-      owners = owners l;
-      ends = ends l;
-      corners = allCorners l;
-      paths = map (λ (c : Cycle). pathData (c .points)) l;
-      chains = map (λ (c : Cycle). chainOf (c .points)) l;
-    }
+-- The colours of a dial's pixels, and its outlines.
+unfoldable pub pixelsOf : Dial → List ℕ
+unfolding paint blocks
+pixelsOf d = paint (blocks (d .codes) (d .levels) (d .colours))
 
--- The number of the dial's list, and for each drawing that it says, the one by the definitions.
-unfoldable pub answered : Dial → Dial
-unfolding number drawingOf
-answered d = record {
-  n = d .n;
-  codes = d .codes;
-  levels = d .levels;
-  colours = d .colours;
-  number = number (d .n) (d .codes) (d .levels) (d .colours);
-  drawn = map (λ (x : Drawing). drawingOf (d .n) (d .codes) (d .levels) (d .colours)) (d .drawn);
-}
+unfoldable pub outlinesOf : Dial → List Cycle
+unfolding listing numbers regions pixelsOf
+outlinesOf d = listing (d .n) (numbers (d .n) (pixelsOf d)) (regions (d .n) (pixelsOf d))
 
-pub dials : List Dial
-unfolding point
-dials =
-    -- 1. n=0, one block: M0 0H1V1H0Z, chain 0321 from (0,0).
-    record {
-      n = 0;
-      codes = 0 ∷ [];
-      levels = 0 ∷ [];
-      colours = 7 ∷ [];
-      number = 0;
-      drawn =
-          record {
-            labels = 0 ∷ [];
-            owners = 0 ∷ [];
-            ends = 4 ∷ [];
-            corners = point 0 0 ∷ point 1 0 ∷ point 1 1 ∷ point 0 1 ∷ [];
-            paths = (77 ∷ 48 ∷ 32 ∷ 48 ∷ 72 ∷ 49 ∷ 86 ∷ 49 ∷ 72 ∷ 48 ∷ 90 ∷ []) ∷ [];
-            chains = (48 ∷ 51 ∷ 50 ∷ 49 ∷ []) ∷ [];
-          }
-          ∷ [];
-    }
-    -- 2. Figure 5(b): numbers 0 0 0 1 0 0 2; M0 0H4V2H2V1H1V2H2V4H0Z, M1 1H2V2H1Z, M2 2H4V4H2Z.
-    ∷ record {
-      n = 2;
-      codes = 0 ∷ 1 ∷ 2 ∷ 3 ∷ 4 ∷ 8 ∷ 12 ∷ [];
-      levels = 0 ∷ 0 ∷ 0 ∷ 0 ∷ 1 ∷ 1 ∷ 1 ∷ [];
-      colours = 1 ∷ 1 ∷ 1 ∷ 2 ∷ 1 ∷ 1 ∷ 3 ∷ [];
-      number = 0;
-      drawn =
-          record {
-            labels = 0 ∷ 0 ∷ 0 ∷ 1 ∷ 0 ∷ 0 ∷ 2 ∷ [];
-            owners = 0 ∷ 1 ∷ 2 ∷ [];
-            ends = 10 ∷ 14 ∷ 18 ∷ [];
-            corners = point 0 0 ∷ point 4 0 ∷ point 4 2 ∷ point 2 2 ∷ point 2 1 ∷ point 1 1 ∷ point 1 2 ∷ point 2 2 ∷ point 2 4 ∷ point 0 4 ∷ point 1 1 ∷ point 2 1 ∷ point 2 2 ∷ point 1 2 ∷ point 2 2 ∷ point 4 2 ∷ point 4 4 ∷ point 2 4 ∷ [];
-            paths = (77 ∷ 48 ∷ 32 ∷ 48 ∷ 72 ∷ 52 ∷ 86 ∷ 50 ∷ 72 ∷ 50 ∷ 86 ∷ 49 ∷ 72 ∷ 49 ∷ 86 ∷ 50 ∷ 72 ∷ 50 ∷ 86 ∷ 52 ∷ 72 ∷ 48 ∷ 90 ∷ []) ∷ (77 ∷ 49 ∷ 32 ∷ 49 ∷ 72 ∷ 50 ∷ 86 ∷ 50 ∷ 72 ∷ 49 ∷ 90 ∷ []) ∷ (77 ∷ 50 ∷ 32 ∷ 50 ∷ 72 ∷ 52 ∷ 86 ∷ 52 ∷ 72 ∷ 50 ∷ 90 ∷ []) ∷ [];
-            chains = (48 ∷ 48 ∷ 48 ∷ 48 ∷ 51 ∷ 51 ∷ 50 ∷ 50 ∷ 49 ∷ 50 ∷ 51 ∷ 48 ∷ 51 ∷ 51 ∷ 50 ∷ 50 ∷ 49 ∷ 49 ∷ 49 ∷ 49 ∷ []) ∷ (48 ∷ 51 ∷ 50 ∷ 49 ∷ []) ∷ (48 ∷ 48 ∷ 51 ∷ 51 ∷ 50 ∷ 50 ∷ 49 ∷ 49 ∷ []) ∷ [];
-          }
-          ∷ [];
-    }
-    -- 3. Figure 5(a), 4 by 4, a 2 by 2 middle: region 0 is M0 0H4V4H0ZM1 3H3V1H1Z.
-    ∷ record {
-      n = 2;
-      codes = 0 ∷ 1 ∷ 2 ∷ 3 ∷ 4 ∷ 5 ∷ 6 ∷ 7 ∷ 8 ∷ 9 ∷ 10 ∷ 11 ∷ 12 ∷ 13 ∷ 14 ∷ 15 ∷ [];
-      levels = 0 ∷ 0 ∷ 0 ∷ 0 ∷ 0 ∷ 0 ∷ 0 ∷ 0 ∷ 0 ∷ 0 ∷ 0 ∷ 0 ∷ 0 ∷ 0 ∷ 0 ∷ 0 ∷ [];
-      colours = 1 ∷ 1 ∷ 1 ∷ 2 ∷ 1 ∷ 1 ∷ 2 ∷ 1 ∷ 1 ∷ 2 ∷ 1 ∷ 1 ∷ 2 ∷ 1 ∷ 1 ∷ 1 ∷ [];
-      number = 0;
-      drawn =
-          record {
-            labels = 0 ∷ 0 ∷ 0 ∷ 1 ∷ 0 ∷ 0 ∷ 1 ∷ 0 ∷ 0 ∷ 1 ∷ 0 ∷ 0 ∷ 1 ∷ 0 ∷ 0 ∷ 0 ∷ [];
-            owners = 0 ∷ 0 ∷ 1 ∷ [];
-            ends = 4 ∷ 8 ∷ 12 ∷ [];
-            corners = point 0 0 ∷ point 4 0 ∷ point 4 4 ∷ point 0 4 ∷ point 1 3 ∷ point 3 3 ∷ point 3 1 ∷ point 1 1 ∷ point 1 1 ∷ point 3 1 ∷ point 3 3 ∷ point 1 3 ∷ [];
-            paths = (77 ∷ 48 ∷ 32 ∷ 48 ∷ 72 ∷ 52 ∷ 86 ∷ 52 ∷ 72 ∷ 48 ∷ 90 ∷ []) ∷ (77 ∷ 49 ∷ 32 ∷ 51 ∷ 72 ∷ 51 ∷ 86 ∷ 49 ∷ 72 ∷ 49 ∷ 90 ∷ []) ∷ (77 ∷ 49 ∷ 32 ∷ 49 ∷ 72 ∷ 51 ∷ 86 ∷ 51 ∷ 72 ∷ 49 ∷ 90 ∷ []) ∷ [];
-            chains = (48 ∷ 48 ∷ 48 ∷ 48 ∷ 51 ∷ 51 ∷ 51 ∷ 51 ∷ 50 ∷ 50 ∷ 50 ∷ 50 ∷ 49 ∷ 49 ∷ 49 ∷ 49 ∷ []) ∷ (48 ∷ 48 ∷ 49 ∷ 49 ∷ 50 ∷ 50 ∷ 51 ∷ 51 ∷ []) ∷ (48 ∷ 48 ∷ 51 ∷ 51 ∷ 50 ∷ 50 ∷ 49 ∷ 49 ∷ []) ∷ [];
-          }
-          ∷ [];
-    }
-    -- 4. n=1, colours 1 2 2 1: four regions.
-    ∷ record {
-      n = 1;
-      codes = 0 ∷ 1 ∷ 2 ∷ 3 ∷ [];
-      levels = 0 ∷ 0 ∷ 0 ∷ 0 ∷ [];
-      colours = 1 ∷ 2 ∷ 2 ∷ 1 ∷ [];
-      number = 0;
-      drawn =
-          record {
-            labels = 0 ∷ 1 ∷ 2 ∷ 3 ∷ [];
-            owners = 0 ∷ 1 ∷ 2 ∷ 3 ∷ [];
-            ends = 4 ∷ 8 ∷ 12 ∷ 16 ∷ [];
-            corners = point 0 0 ∷ point 1 0 ∷ point 1 1 ∷ point 0 1 ∷ point 1 0 ∷ point 2 0 ∷ point 2 1 ∷ point 1 1 ∷ point 0 1 ∷ point 1 1 ∷ point 1 2 ∷ point 0 2 ∷ point 1 1 ∷ point 2 1 ∷ point 2 2 ∷ point 1 2 ∷ [];
-            paths = (77 ∷ 48 ∷ 32 ∷ 48 ∷ 72 ∷ 49 ∷ 86 ∷ 49 ∷ 72 ∷ 48 ∷ 90 ∷ []) ∷ (77 ∷ 49 ∷ 32 ∷ 48 ∷ 72 ∷ 50 ∷ 86 ∷ 49 ∷ 72 ∷ 49 ∷ 90 ∷ []) ∷ (77 ∷ 48 ∷ 32 ∷ 49 ∷ 72 ∷ 49 ∷ 86 ∷ 50 ∷ 72 ∷ 48 ∷ 90 ∷ []) ∷ (77 ∷ 49 ∷ 32 ∷ 49 ∷ 72 ∷ 50 ∷ 86 ∷ 50 ∷ 72 ∷ 49 ∷ 90 ∷ []) ∷ [];
-            chains = (48 ∷ 51 ∷ 50 ∷ 49 ∷ []) ∷ (48 ∷ 51 ∷ 50 ∷ 49 ∷ []) ∷ (48 ∷ 51 ∷ 50 ∷ 49 ∷ []) ∷ (48 ∷ 51 ∷ 50 ∷ 49 ∷ []) ∷ [];
-          }
-          ∷ [];
-    }
-    -- 5. n=1, colours 1 1 2 2: M0 0H2V1H0Z and M0 1H2V2H0Z.
-    ∷ record {
-      n = 1;
-      codes = 0 ∷ 1 ∷ 2 ∷ 3 ∷ [];
-      levels = 0 ∷ 0 ∷ 0 ∷ 0 ∷ [];
-      colours = 1 ∷ 1 ∷ 2 ∷ 2 ∷ [];
-      number = 0;
-      drawn =
-          record {
-            labels = 0 ∷ 0 ∷ 1 ∷ 1 ∷ [];
-            owners = 0 ∷ 1 ∷ [];
-            ends = 4 ∷ 8 ∷ [];
-            corners = point 0 0 ∷ point 2 0 ∷ point 2 1 ∷ point 0 1 ∷ point 0 1 ∷ point 2 1 ∷ point 2 2 ∷ point 0 2 ∷ [];
-            paths = (77 ∷ 48 ∷ 32 ∷ 48 ∷ 72 ∷ 50 ∷ 86 ∷ 49 ∷ 72 ∷ 48 ∷ 90 ∷ []) ∷ (77 ∷ 48 ∷ 32 ∷ 49 ∷ 72 ∷ 50 ∷ 86 ∷ 50 ∷ 72 ∷ 48 ∷ 90 ∷ []) ∷ [];
-            chains = (48 ∷ 48 ∷ 51 ∷ 50 ∷ 50 ∷ 49 ∷ []) ∷ (48 ∷ 48 ∷ 51 ∷ 50 ∷ 50 ∷ 49 ∷ []) ∷ [];
-          }
-          ∷ [];
-    }
-    -- 6. n=1, four blocks of colour 5: 7.
-    ∷ record { n = 1; codes = 0 ∷ 1 ∷ 2 ∷ 3 ∷ []; levels = 0 ∷ 0 ∷ 0 ∷ 0 ∷ []; colours = 5 ∷ 5 ∷ 5 ∷ 5 ∷ []; number = 7; drawn = [] }
-    -- 7. Empty list: 6.
-    ∷ record { n = 1; codes = []; levels = []; colours = []; number = 6; drawn = [] }
-    -- 8. n=1, codes 0 2, levels 0 0, two colours: 4.
-    ∷ record { n = 1; codes = 0 ∷ 2 ∷ []; levels = 0 ∷ 0 ∷ []; colours = 1 ∷ 2 ∷ []; number = 4; drawn = [] }
-    -- 9. n=2, codes 0 1, levels 0 1: 5.
-    ∷ record { n = 2; codes = 0 ∷ 1 ∷ []; levels = 0 ∷ 1 ∷ []; colours = 1 ∷ 2 ∷ []; number = 5; drawn = [] }
-    -- 10. n=1, codes 0 4, levels 1 0: 4.
-    ∷ record { n = 1; codes = 0 ∷ 4 ∷ []; levels = 1 ∷ 0 ∷ []; colours = 1 ∷ 2 ∷ []; number = 4; drawn = [] }
-    -- 11. n=1, level 2: 3.
-    ∷ record { n = 1; codes = 0 ∷ []; levels = 2 ∷ []; colours = 1 ∷ []; number = 3; drawn = [] }
-    -- 12. n=9: 1. n=8, one block of level 8: accepted.
-    ∷ record { n = 9; codes = 0 ∷ []; levels = 9 ∷ []; colours = 1 ∷ []; number = 1; drawn = [] }
-    ∷ record { n = 8; codes = 0 ∷ []; levels = 8 ∷ []; colours = 1 ∷ []; number = 0; drawn = [] }
-    ∷ []
+-- A saying, as equations.
+abbrev pub Holds : Dial → Saying → Type 0
+Holds d (answer k) = number (d .n) (d .codes) (d .levels) (d .colours) ≡ k
+Holds d (labelled ls) = labels (d .n) (blocks (d .codes) (d .levels) (d .colours)) ≡ ls
+Holds d (counted r c k) = (regions (d .n) (pixelsOf d) ≡ r) × (cycleCount (outlinesOf d) ≡ c) × (cornerCount (outlinesOf d) ≡ k)
+Holds d (outlined os es cs) = (owners (outlinesOf d) ≡ os) × (ends (outlinesOf d) ≡ es) × (allCorners (outlinesOf d) ≡ cs)
+Holds d (path r bytes) = dataOf r (outlinesOf d) ≡ bytes
+Holds d (chain k p bytes) = (getD (pointsAt (outlinesOf d) k) 0 0 ≡ p) × (chainOf (pointsAt (outlinesOf d) k) ≡ bytes)
 
--- Each dial is answered as document 01 says.
-pub dials-answered : map answered dials ≡ dials
-unfolding dials answered decimal isEven xOf yOf outline bytesOf byteOf digit
-dials-answered = refl
+-- All that is said of a dial, and of each dial of a table.
+abbrev pub Each : Dial → List Saying → Type 0
+Each d [] = Unit {0}
+Each d (s ∷ ss) = Holds d s × Each d ss
+
+abbrev pub AllHold : List Dial → Type 0
+AllHold [] = Unit {0}
+AllHold (d ∷ ds) = Each d (d .says) × AllHold ds
+
+-- ---- the same, computed
+
+unfoldable pub same : List ℕ → List ℕ → Bool
+same [] [] = true
+same [] (y ∷ ys) = false
+same (x ∷ xs) [] = false
+same (x ∷ xs) (y ∷ ys) = eqb x y && same xs ys
+
+unfoldable pub holds : Dial → Saying → Bool
+unfolding number labels blocks regions pixelsOf outlinesOf cycleCount cornerCount owners ends allCorners pointsAt dataOf chainOf same
+holds d (answer k) = eqb (number (d .n) (d .codes) (d .levels) (d .colours)) k
+holds d (labelled ls) = same (labels (d .n) (blocks (d .codes) (d .levels) (d .colours))) ls
+holds d (counted r c k) = eqb (regions (d .n) (pixelsOf d)) r && (eqb (cycleCount (outlinesOf d)) c && eqb (cornerCount (outlinesOf d)) k)
+holds d (outlined os es cs) = same (owners (outlinesOf d)) os && (same (ends (outlinesOf d)) es && same (allCorners (outlinesOf d)) cs)
+holds d (path r bytes) = same (dataOf r (outlinesOf d)) bytes
+holds d (chain k p bytes) = eqb (getD (pointsAt (outlinesOf d) k) 0 0) p && same (chainOf (pointsAt (outlinesOf d) k)) bytes
+
+unfoldable pub each : Dial → List Saying → Bool
+unfolding holds
+each d [] = true
+each d (s ∷ ss) = holds d s && each d ss
+
+unfoldable pub allHold : List Dial → Bool
+unfolding each
+allHold [] = true
+allHold (d ∷ ds) = each d (d .says) && allHold ds
+
+-- A test that is passed gives the equations.
+pub same-says : (xs ys : List ℕ) → same xs ys ≡ true → xs ≡ ys
+unfolding same
+same-says [] [] h = refl
+same-says [] (y ∷ ys) h = absurd (false≢true h)
+same-says (x ∷ xs) [] h = absurd (false≢true h)
+same-says (x ∷ xs) (y ∷ ys) h =
+    let b = and-both (eqb x y) (same xs ys) h in
+    ap₂ {A = ℕ} {B = List ℕ} (λ z zs. z ∷ zs) (eqb-true x y (b .0)) (same-says xs ys (b .1))
+
+pub holds-says : (d : Dial) (s : Saying) → holds d s ≡ true → Holds d s
+unfolding holds
+holds-says d (answer k) h = eqb-true (number (d .n) (d .codes) (d .levels) (d .colours)) k h
+holds-says d (labelled ls) h = same-says (labels (d .n) (blocks (d .codes) (d .levels) (d .colours))) ls h
+holds-says d (counted r c k) h =
+    let a = and-both (eqb (regions (d .n) (pixelsOf d)) r) (eqb (cycleCount (outlinesOf d)) c && eqb (cornerCount (outlinesOf d)) k) h in
+    let b = and-both (eqb (cycleCount (outlinesOf d)) c) (eqb (cornerCount (outlinesOf d)) k) (a .1) in
+    (eqb-true (regions (d .n) (pixelsOf d)) r (a .0), eqb-true (cycleCount (outlinesOf d)) c (b .0), eqb-true (cornerCount (outlinesOf d)) k (b .1))
+holds-says d (outlined os es cs) h =
+    let a = and-both (same (owners (outlinesOf d)) os) (same (ends (outlinesOf d)) es && same (allCorners (outlinesOf d)) cs) h in
+    let b = and-both (same (ends (outlinesOf d)) es) (same (allCorners (outlinesOf d)) cs) (a .1) in
+    (same-says (owners (outlinesOf d)) os (a .0), same-says (ends (outlinesOf d)) es (b .0), same-says (allCorners (outlinesOf d)) cs (b .1))
+holds-says d (path r bytes) h = same-says (dataOf r (outlinesOf d)) bytes h
+holds-says d (chain k p bytes) h =
+    let a = and-both (eqb (getD (pointsAt (outlinesOf d) k) 0 0) p) (same (chainOf (pointsAt (outlinesOf d) k)) bytes) h in
+    (eqb-true (getD (pointsAt (outlinesOf d) k) 0 0) p (a .0), same-says (chainOf (pointsAt (outlinesOf d) k)) bytes (a .1))
+
+pub each-says : (d : Dial) (ss : List Saying) → each d ss ≡ true → Each d ss
+unfolding each
+each-says d [] h = tt
+each-says d (s ∷ ss) h =
+    let b = and-both (holds d s) (each d ss) h in
+    (holds-says d s (b .0), each-says d ss (b .1))
+
+pub all-say : (ds : List Dial) → allHold ds ≡ true → AllHold ds
+unfolding allHold
+all-say [] h = tt
+all-say (d ∷ ds) h =
+    let b = and-both (each d (d .says)) (allHold ds) h in
+    (each-says d (d .says) (b .0), all-say ds (b .1))

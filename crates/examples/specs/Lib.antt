@@ -1,2 +1,3 @@
--- Document 01's dials.
+-- Dials to try.
 pub mod Dials
+pub mod Table

@@ -4,6 +4,7 @@ ghost use mathlib.Core.Path.{_≡_};
 ghost use Rattle.quadtree.specs.Number.{number};
 ghost use Rattle.blocks.specs.Rasters.{FromRaster, ToRaster};
 ghost use Rattle.regions.specs.Promise.{Numbering};
+ghost use Rattle.tracing.specs.Tracing.{lent, Tracing};
 ghost use Rattle.paths.specs.Stretch.{Place};
 ghost use Rattle.paths.specs.Svg.{Svg};
 ghost use Rattle.paths.specs.Chain.{ChainWritten};
@@ -22,6 +23,15 @@ pub struct Written {
 pub struct Numbered {
     pub number: u32,
     pub regions: u32,
+}
+
+// The number of an answer, 0 for acceptance, and how many regions, cycles and corners there are.
+#[repr(C)]
+pub struct Traced {
+    pub number: u32,
+    pub regions: u32,
+    pub cycles: u32,
+    pub corners: u32,
 }
 
 // A part of a lent list, by its place and length.
@@ -97,6 +107,39 @@ pub extern "C" fn nettlestair_number(
     Numbered {
         number: r.number,
         regions: r.regions,
+    }
+}
+
+#[no_mangle]
+pub extern "C" fn nettlestair_trace(
+    n: u32,
+    codes: &[u32],
+    levels: &[u8],
+    colours: &[u8],
+    labels: &mut [u32],
+    work: &mut [u32],
+    owners: &mut [u32],
+    ends: &mut [u32],
+    corners: &mut [u32],
+) -> Traced
+    ensures { λ r. ⌜ Tracing n (now (codes .entry)) (now (levels .entry)) (now (colours .entry)) (lent (now (labels .entry)) (now (work .entry)) (now (owners .entry)) (now (ends .entry)) (now (corners .entry))) (lent (now (labels .exit)) (now (work .exit)) (now (owners .exit)) (now (ends .exit)) (now (corners .exit))) (record { number = r .number; regions = r .regions; cycles = r .cycles; corners = r .corners }) ⌝ }
+{
+    let r = tracing::trace(
+        n,
+        codes,
+        levels,
+        colours,
+        labels,
+        work,
+        owners,
+        ends,
+        corners,
+    );
+    Traced {
+        number: r.number,
+        regions: r.regions,
+        cycles: r.cycles,
+        corners: r.corners,
     }
 }
 

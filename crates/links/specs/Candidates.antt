@@ -55,9 +55,9 @@ module _ (n : ℕ) (bs : List Block) (covering : cover n 0 bs ≡ 0) (r : ℕ) w
       ordered-flat _<_ _<_ (λ j. topRow n (blockAt bs j)) (placesFrom (colourAt bs) (length bs) r i) (places-rise (colourAt bs) (length bs) r i)
       (λ j w. top-row-rises n bs covering j (in-places (colourAt bs) (length bs) r i j w .1))
       (λ j k a b v w l p q.
-        let f = top-row-held n bs covering j (in-places (colourAt bs) (length bs) r i j v .1) a p in
-        let g = top-row-held n bs covering k (in-places (colourAt bs) (length bs) r i k w .1) b q in
-        omega (arith, f .before, g .from, pixels-grow bs (suc j) k l))
+      let f = top-row-held n bs covering j (in-places (colourAt bs) (length bs) r i j v .1) a p in
+      let g = top-row-held n bs covering k (in-places (colourAt bs) (length bs) r i k w .1) b q in
+      omega (arith, f .before, g .from, pixels-grow bs (suc j) k l))
 
   -- Where the colours are the region numbers, the cycles of region r start at candidates only, and in their order.
   pub starts-along-rows : n ≤ 8 → starts n (paint bs) r ≡ keep (startsIn n (paint bs) r) (rowsFrom n bs r 0)

@@ -133,8 +133,8 @@ module _ (n : ℕ) (cs ls ks : List ℕ) (accepted : number n cs ls ks ≡ 0) (o
   relabelled-paints =
       ext-getD 0 (paint bs′) nums (long ∙ sym (length-numbers n (paint bs)))
       (λ c h.
-        let p : HoldsAt bs′ (holder bs′ c) c = pixel-held n bs′ relabelled-covers c (omega (arith, long)) in
-        held-colour bs′ (holder bs′ c) c p ∙ number-of-held (holder bs′ c) c p)
+      let p : HoldsAt bs′ (holder bs′ c) c = pixel-held n bs′ relabelled-covers c (omega (arith, long)) in
+      held-colour bs′ (holder bs′ c) c p ∙ number-of-held (holder bs′ c) c p)
     where
       long : length (paint bs′) ≡ 4 ^ n
       long = length-paint bs′ ∙ all-pixels n bs′ relabelled-covers

@@ -89,7 +89,7 @@ module _ (n : ℕ) (bs : List Block) (covering : cover n 0 bs ≡ 0) where
 
     pub square-held : (x y : ℕ)
         → (column n (blockAt bs i .code) ≤ x) × (x < column n (blockAt bs i .code) + 2 ^ blockAt bs i .level)
-          × (row n (blockAt bs i .code) ≤ y) × (y < row n (blockAt bs i .code) + 2 ^ blockAt bs i .level)
+        × (row n (blockAt bs i .code) ≤ y) × (y < row n (blockAt bs i .code) + 2 ^ blockAt bs i .level)
         → HoldsAt bs i (code n x y)
     square-held x y h =
         let s = block-square in
@@ -111,7 +111,7 @@ module _ (n : ℕ) (bs : List Block) (covering : cover n 0 bs ≡ 0) where
   -- The pixels of a block lie in its square.
   pub held-in-square : (i c : ℕ) → HoldsAt bs i c
       → (column n (blockAt bs i .code) ≤ column n c) × (column n c < column n (blockAt bs i .code) + 2 ^ blockAt bs i .level)
-        × (row n (blockAt bs i .code) ≤ row n c) × (row n c < row n (blockAt bs i .code) + 2 ^ blockAt bs i .level)
+      × (row n (blockAt bs i .code) ≤ row n c) × (row n c < row n (blockAt bs i .code) + 2 ^ blockAt bs i .level)
   held-in-square i c h =
       let e : code n (column n c) (row n c) ≡ c = code-of-coordinates n c (held-in-image n bs covering i c h) in
       let at = placed n bs covering i (h .place) in

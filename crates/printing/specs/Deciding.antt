@@ -80,5 +80,5 @@ module _ {bytes after : List ℕ} {p : Picture} (short : length bytes ≤ 8192) 
         unfolding pictureText
         lines-printed =
             let same : imageText (p .n) (inCodeOrder (p .n) (take (p .start + p .length - p .start) (drop (p .start) bytes))) ≡ pictureText bytes =
-                ap₂ (λ (i : ℕ) (raster : List ℕ). imageText i (inCodeOrder i raster)) same-side part in
+            ap₂ (λ (i : ℕ) (raster : List ℕ). imageText i (inCodeOrder i raster)) same-side part in
             picture-printed bytes (number-read ∙ z) (omega (arith, need)) (subst (λ (l : List ℕ). Put l text text′ k) same q)

@@ -4,6 +4,7 @@ pub mod Outlines
 pub mod Held
 pub mod Writing
 pub mod Picturing
+pub mod Tracings
 pub mod Printed
 pub mod Printable
 pub mod Deciding

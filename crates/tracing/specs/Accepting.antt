@@ -77,7 +77,7 @@ module _ (n : ℕ) (cs ls ks : List ℕ) (b : Lent) {k : ℕ} (asked : k ≡ tra
     -- ---- after the listing
 
     module _ {work₂ owners₂ ends₂ corners₂ : List ℕ} {counts : Counts}
-      (told : OutlinesTold n cs ls labels₁ work₁ (b .ownerList) (b .endList) (b .cornerList) work₂ owners₂ ends₂ corners₂ counts) where
+        (told : OutlinesTold n cs ls labels₁ work₁ (b .ownerList) (b .endList) (b .cornerList) work₂ owners₂ ends₂ corners₂ counts) where
       cycles-are : listing n (paint (blocks cs ls labels₁)) (4 ^ n) ≡ outlinesOf n cs ls ks
       unfolding outlinesOf
       cycles-are =

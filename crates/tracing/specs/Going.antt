@@ -198,18 +198,18 @@ module _ {n : ℕ} {codes levels : List ℕ} {whole first : ℕ} {s₀ : State} 
         pub chain-less : {next′ : ℕ} → next′ ≡ getD (s₁ .work) (whole + (next - 1)) 0 → chainLeft codes next′ < chainLeft codes next
         chain-less {next′} e = pick (ℕ-discrete next′ 0)
           where
-            now : chainLeft codes next ≡ suc (length codes) - next
-            now = simp (ne-eqb next 0 some) refl
+            left-now : chainLeft codes next ≡ suc (length codes) - next
+            left-now = simp (ne-eqb next 0 some) refl
 
             pick : Dec (next′ ≡ 0) → chainLeft codes next′ < chainLeft codes next
             pick (yes z) =
                 let l : chainLeft codes next′ ≡ 0 = simp (eq-eqb next′ 0 z) refl in
-                omega (arith, now, place-now)
+                omega (arith, left-now, place-now)
             pick (no d) =
                 let l : chainLeft codes next′ ≡ suc (length codes) - next′ = simp (ne-eqb next′ 0 d) refl in
                 let w : Next (colourAt bs) (length bs) r (suc (next - 1)) (next′ - 1) =
                 next-some (colourAt bs) (length bs) r (suc (next - 1)) (next′ - 1) (omega (arith, place-now, blocks-long (p .going))) (sym (next-then e) ∙ omega arith) in
-                omega (arith, now, w .from, w .place, blocks-long (p .going))
+                omega (arith, left-now, w .from, w .place, blocks-long (p .going))
 
     pub chain-finish : next ≡ 0 → Told n (chainOf p) s₀ s
     chain-finish z =

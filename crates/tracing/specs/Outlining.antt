@@ -125,7 +125,7 @@ module _ {n : ℕ} {codes levels labels work owned ended points : List ℕ} (ok 
         }
 
         module _ {work′ owned′ ended′ points′ : List ℕ} {cycles at : ℕ}
-          (t : AllTold n codes levels labels (state mapped owned ended points 0 0) (state work′ owned′ ended′ points′ cycles at)) where
+            (t : AllTold n codes levels labels (state mapped owned ended points 0 0) (state work′ owned′ ended′ points′ cycles at)) where
           pub clear-room : 0 + 2 * whole ≤ length work′
           clear-room = omega (arith, whole-is, t .listed .long, filled .same-length, l .long, ok .for-work)
 

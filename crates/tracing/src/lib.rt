@@ -91,11 +91,31 @@ pub fn trace(
 ) -> Traced
     ensures { λ r. ⌜ Tracing n (now (codes .entry)) (now (levels .entry)) (now (colours .entry)) (lent (now (labels .entry)) (now (work .entry)) (now (owners .entry)) (now (ends .entry)) (now (corners .entry))) (lent (now (labels .exit)) (now (work .exit)) (now (owners .exit)) (now (ends .exit)) (now (corners .exit))) r ⌝ }
 {
-    let number = fault(n, codes, levels, colours, labels, work, owners, ends, corners);
+    let number = fault(
+        n,
+        codes,
+        levels,
+        colours,
+        labels,
+        work,
+        owners,
+        ends,
+        corners,
+    );
     if number != 0 {
-        return Traced { number: number, regions: 0, cycles: 0, corners: 0 };
+        return Traced {
+            number: number,
+            regions: 0,
+            cycles: 0,
+            corners: 0,
+        };
     }
     let numbered = regions::number(n, codes, levels, colours, labels, work);
     let counts = outline(n, codes, levels, labels, work, owners, ends, corners);
-    Traced { number: 0, regions: numbered.regions, cycles: counts.cycles as u32, corners: counts.corners as u32 }
+    Traced {
+        number: 0,
+        regions: numbered.regions,
+        cycles: counts.cycles as u32,
+        corners: counts.corners as u32,
+    }
 }

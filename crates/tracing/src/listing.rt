@@ -55,12 +55,18 @@ fn list_pixel(
 {
     let r = unmarked(n, work, x, y);
     if r == 0 {
-        return Counts { cycles: cycles, corners: at };
+        return Counts {
+            cycles: cycles,
+            corners: at,
+        };
     }
     let k = write_cycle(n, work, x, y, &mut corners[at..]);
     owners[cycles] = r - 1;
     ends[cycles] = (at + k) as u32;
-    Counts { cycles: cycles + 1, corners: at + k }
+    Counts {
+        cycles: cycles + 1,
+        corners: at + k,
+    }
 }
 
 // Lists the cycles that start at the `width` pixels of the row y from the column x on.
@@ -89,7 +95,10 @@ fn list_row(
         used = now.corners;
         i += 1;
     }
-    Counts { cycles: count, corners: used }
+    Counts {
+        cycles: count,
+        corners: used,
+    }
 }
 
 // Lists the cycles that start in the block with this code and level: only at pixels of its top row can one start.
@@ -135,12 +144,25 @@ fn list_region(
     let mut next = first + 1;
     while next != 0 {
         let j = next - 1;
-        let now = list_block(n, codes[j], levels[j], work, owners, ends, corners, count, used);
+        let now = list_block(
+            n,
+            codes[j],
+            levels[j],
+            work,
+            owners,
+            ends,
+            corners,
+            count,
+            used,
+        );
         count = now.cycles;
         used = now.corners;
         next = work[whole + j] as usize;
     }
-    Counts { cycles: count, corners: used }
+    Counts {
+        cycles: count,
+        corners: used,
+    }
 }
 
 // What the pass over the blocks has reached: how many regions, cycles and corners are listed.
@@ -170,10 +192,30 @@ fn list_next(
     ensures { λ r. ⌜ PlaceTold n (now (codes .entry)) (now (levels .entry)) (now (labels .entry)) i (r .regions) (state (now (work .entry)) (now (owners .entry)) (now (ends .entry)) (now (corners .entry)) cycles at) (state (now (work .exit)) (now (owners .exit)) (now (ends .exit)) (now (corners .exit)) (r .cycles) (r .corners)) ⌝ }
 {
     if labels[i] != regions {
-        return Reached { regions: regions, cycles: cycles, corners: at };
+        return Reached {
+            regions: regions,
+            cycles: cycles,
+            corners: at,
+        };
     }
-    let now = list_region(n, codes, levels, whole, i, work, owners, ends, corners, cycles, at);
-    Reached { regions: regions + 1, cycles: now.cycles, corners: now.corners }
+    let now = list_region(
+        n,
+        codes,
+        levels,
+        whole,
+        i,
+        work,
+        owners,
+        ends,
+        corners,
+        cycles,
+        at,
+    );
+    Reached {
+        regions: regions + 1,
+        cycles: now.cycles,
+        corners: now.corners,
+    }
 }
 
 // Lists all cycles of a labelled list of blocks, whose map and links stand in the work list.
@@ -197,12 +239,27 @@ pub(crate) fn list_all(
     let mut i: usize = 0;
     while i < codes.len() {
         let now = list_next(
-            n, codes, levels, labels, whole, i, regions, work, owners, ends, corners, count, used,
+            n,
+            codes,
+            levels,
+            labels,
+            whole,
+            i,
+            regions,
+            work,
+            owners,
+            ends,
+            corners,
+            count,
+            used,
         );
         regions = now.regions;
         count = now.cycles;
         used = now.corners;
         i += 1;
     }
-    Counts { cycles: count, corners: used }
+    Counts {
+        cycles: count,
+        corners: used,
+    }
 }

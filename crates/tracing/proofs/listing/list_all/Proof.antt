@@ -1,6 +1,6 @@
-use Rattle.tracing.specs.Going.{blocks-few}
 -- `list_all` meets its contract. The loop's invariant: every block before i is one of a region that is listed. The measure is what is left
 -- of the list.
+use Rattle.tracing.specs.Going.{blocks-few}
 use Rattle.tracing.specs.Progress.{state, same-owners, same-ends, same-corners}
 use Rattle.tracing.specs.Regions.{ForwardTo, begin, place-asked, again, finish}
 use Prim.Native.Nat.{_-_}

@@ -1,0 +1,68 @@
+-- A side of at most 64 fits the local lists, so the tracing leaves the outlines in them, and their text cycle by cycle is the lines.
+use native.Mathlib.Omega.{arith}
+use Rattle.printing.specs.Picturing.{drawable, drawn}
+use Rattle.printing.specs.Tracings.{outlined}
+use borrow.Author.Needs.{needs}
+use Rattle.printing.proofs.picture.write_outlines.Statement.{statement}
+use Rattle.printing.proofs.picture.write_outlines.Tie as tie
+
+slice-aggregate-trace : tie.Need-slice-aggregate-trace
+slice-aggregate-trace c = search needs
+
+slice-aggregate-trace-2 : tie.Need-slice-aggregate-trace-2
+slice-aggregate-trace-2 c = search needs
+
+slice-aggregate-trace-3 : tie.Need-slice-aggregate-trace-3
+slice-aggregate-trace-3 c = search needs
+
+slice-aggregate-trace-4 : tie.Need-slice-aggregate-trace-4
+slice-aggregate-trace-4 c = search needs
+
+slice-aggregate-trace-5 : tie.Need-slice-aggregate-trace-5
+slice-aggregate-trace-5 c = search needs
+
+trace-requires : tie.Need-trace-requires
+trace-requires c κs = search needs
+
+slice-aggregate-write : tie.Need-slice-aggregate-write
+slice-aggregate-write c = search needs
+
+slice-aggregate-write-2 : tie.Need-slice-aggregate-write-2
+slice-aggregate-write-2 c = search needs
+
+slice-aggregate-write-3 : tie.Need-slice-aggregate-write-3
+slice-aggregate-write-3 c = search needs
+
+write-requires : tie.Need-write-requires
+write-requires c κs =
+    let start = c .before .before .before .before .before .before .before .before .before .before .before .before .before .before .before .before .before .before .before in
+    let trace = c .before .before .before .before .before .before .before .before .before .trace in
+    drawable (omega (arith, start .pre .low))
+    (outlined (start .pre) (trace .ensures) (omega arith) (omega arith) (omega arith) (omega arith) (omega arith)) (start .pre .enough)
+
+same-length : tie.Need-same-length
+same-length c = search needs
+
+returns : tie.Need-returns
+returns c =
+    let start = c .before .before .before .before .before .before .before .before .before .before .before .before .before .before .before .before .before .before .before .before .before .before in
+    let trace = c .before .before .before .before .before .before .before .before .before .before .before .before .trace in
+    drawn (omega (arith, start .pre .low))
+    (outlined (start .pre) (trace .ensures) (omega arith) (omega arith) (omega arith) (omega arith) (omega arith)) (c .before .before .write .ensures)
+
+pub write-outlines-spec : {M : Type 1} → statement M
+write-outlines-spec =
+    tie.close
+    (tie.spec
+    slice-aggregate-trace
+    slice-aggregate-trace-2
+    slice-aggregate-trace-3
+    slice-aggregate-trace-4
+    slice-aggregate-trace-5
+    trace-requires
+    slice-aggregate-write
+    slice-aggregate-write-2
+    slice-aggregate-write-3
+    write-requires
+    same-length
+    returns)

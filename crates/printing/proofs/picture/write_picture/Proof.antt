@@ -1,0 +1,68 @@
+-- The raster fits the local lists, so its quadtree is merged into them; that list is accepted and paints the raster's image.
+use native.Mathlib.Omega.{arith}
+use lib.ListN.{length-take}
+use Rattle.printing.specs.Picturing.{merged-traceable, merged-drawn, count-in-codes, count-in-levels, count-in-colours}
+use borrow.Author.Needs.{needs}
+use Rattle.printing.proofs.picture.write_picture.Statement.{statement}
+use Rattle.printing.proofs.picture.write_picture.Tie as tie
+
+slice-aggregate-from-raster : tie.Need-slice-aggregate-from-raster
+slice-aggregate-from-raster c = search needs
+
+slice-aggregate-from-raster-2 : tie.Need-slice-aggregate-from-raster-2
+slice-aggregate-from-raster-2 c = search needs
+
+slice-aggregate-from-raster-3 : tie.Need-slice-aggregate-from-raster-3
+slice-aggregate-from-raster-3 c = search needs
+
+from-raster-requires : tie.Need-from-raster-requires
+from-raster-requires c κs = search needs
+
+cast-count : tie.Need-cast-count
+cast-count c = search needs
+
+array-share-prefix-codes : tie.Need-array-share-prefix-codes
+array-share-prefix-codes c = count-in-codes (c .before .before .before .before .from-raster .ensures)
+
+slice-aggregate-write-outlines : tie.Need-slice-aggregate-write-outlines
+slice-aggregate-write-outlines c = omega (arith, length-take (c .before .before .before .before .before .from-raster .result .count) (c .before .before .before .before .before .from-raster .last .1 .1 .0), count-in-codes (c .before .before .before .before .before .from-raster .ensures))
+
+array-share-prefix-levels : tie.Need-array-share-prefix-levels
+array-share-prefix-levels c = count-in-levels (c .before .before .before .before .before .from-raster .ensures)
+
+slice-aggregate-write-outlines-2 : tie.Need-slice-aggregate-write-outlines-2
+slice-aggregate-write-outlines-2 c = omega (arith, length-take (c .before .before .before .before .before .before .from-raster .result .count) (c .before .before .before .before .before .before .from-raster .last .1 .1 .1 .0), count-in-levels (c .before .before .before .before .before .before .from-raster .ensures))
+
+array-share-prefix-colours : tie.Need-array-share-prefix-colours
+array-share-prefix-colours c = count-in-colours (c .before .before .before .before .before .before .from-raster .ensures)
+
+slice-aggregate-write-outlines-3 : tie.Need-slice-aggregate-write-outlines-3
+slice-aggregate-write-outlines-3 c = omega (arith, length-take (c .before .before .before .before .before .before .before .from-raster .result .count) (c .before .before .before .before .before .before .before .from-raster .last .1 .1 .1 .1 .0), count-in-colours (c .before .before .before .before .before .before .before .from-raster .ensures))
+
+write-outlines-requires : tie.Need-write-outlines-requires
+write-outlines-requires c κs = merged-traceable (c .before .before .before .before .before .before .before .before .before .before .before .before .before .before .pre) (c .before .before .before .before .before .before .before .before .from-raster .ensures) (omega arith) (omega arith) (omega arith) (omega (arith, c .before .before .before .before .before .before .before .before .from-raster .kept .1 .1 .0))
+
+same-length : tie.Need-same-length
+same-length c = search needs
+
+returns : tie.Need-returns
+returns c = merged-drawn (c .before .before .before .before .before .before .before .before .before .before .before .before .before .before .before .before .before .pre) (c .before .before .before .before .before .before .before .before .before .before .before .from-raster .ensures) (omega arith) (omega arith) (omega arith) (c .before .before .write-outlines .ensures)
+
+pub write-picture-spec : {M : Type 1} → statement M
+write-picture-spec =
+    tie.close
+    (tie.spec
+    slice-aggregate-from-raster
+    slice-aggregate-from-raster-2
+    slice-aggregate-from-raster-3
+    from-raster-requires
+    cast-count
+    array-share-prefix-codes
+    slice-aggregate-write-outlines
+    array-share-prefix-levels
+    slice-aggregate-write-outlines-2
+    array-share-prefix-colours
+    slice-aggregate-write-outlines-3
+    write-outlines-requires
+    same-length
+    returns)

@@ -1,0 +1,154 @@
+//! The program `outlines` as a user runs it: a file on standard input, the printed text on standard output. The expected texts are
+//! worked out by hand from document 01. The program is built by `rt check outlines`.
+
+use std::io::Write;
+use std::path::PathBuf;
+use std::process::{Command, Stdio};
+use tests::cases::Cases;
+use tests::model::outlines::Outlines;
+use tests::model::paths::svg;
+use tests::model::regions::Regions;
+use tests::random::Random;
+use tests::rasters;
+
+/// What the program prints for these bytes.
+fn printed(input: &[u8]) -> String {
+    let program = PathBuf::from(concat!(env!("CARGO_MANIFEST_DIR"), "/../target/bin/outlines"));
+    let mut child = Command::new(&program)
+        .stdin(Stdio::piped())
+        .stdout(Stdio::piped())
+        .spawn()
+        .unwrap_or_else(|fault| panic!("{}: {fault} (rt check outlines builds it)", program.display()));
+    let mut stdin = child.stdin.take().expect("standard input");
+    let bytes = input.to_vec();
+    // The program reads at most 8,193 bytes, so that the rest of a longer input has no reader.
+    let writer = std::thread::spawn(move || drop(stdin.write_all(&bytes)));
+    let output = child.wait_with_output().expect("the program ends");
+    writer.join().expect("the input is handed over");
+    assert!(output.status.success(), "the program ends well");
+    String::from_utf8(output.stdout).expect("the text is ASCII")
+}
+
+fn picture(header: &str, raster: &[u8]) -> Vec<u8> {
+    [header.as_bytes(), raster].concat()
+}
+
+/// Document 01's dials 1 to 5.
+#[test]
+fn dials_printed() {
+    let mut cases = Cases::of("dials printed");
+    let rows: &[(Vec<u8>, &str)] = &[
+        (picture("P5\n1 1\n255\n", &[1]), "M0 0H1V1H0Z\n"),
+        (
+            picture("P5\n4 4\n255\n", &[1, 1, 1, 1, 1, 2, 1, 1, 1, 1, 3, 3, 1, 1, 3, 3]),
+            "M0 0H4V2H2V1H1V2H2V4H0Z\nM1 1H2V2H1Z\nM2 2H4V4H2Z\n",
+        ),
+        (
+            picture("P5\n4 4\n255\n", &[1, 1, 1, 1, 1, 2, 2, 1, 1, 2, 2, 1, 1, 1, 1, 1]),
+            "M0 0H4V4H0ZM1 3H3V1H1Z\nM1 1H3V3H1Z\n",
+        ),
+        (picture("P5\n2 2\n255\n", &[1, 2, 2, 1]), "M0 0H1V1H0Z\nM1 0H2V1H1Z\nM0 1H1V2H0Z\nM1 1H2V2H1Z\n"),
+        (picture("P5\n2 2\n255\n", &[1, 1, 2, 2]), "M0 0H2V1H0Z\nM0 1H2V2H0Z\n"),
+    ];
+    for (input, text) in rows {
+        assert_eq!(printed(input), *text);
+        cases.ran();
+    }
+    cases.end();
+}
+
+/// A refusal of each kind from 10 to 15, and which of two comes first.
+#[test]
+fn refusals_printed() {
+    let mut cases = Cases::of("refusals printed");
+    let full = picture("P5\n64 64\n255\n", &[7; 4096]);
+    let padded = |length: usize| {
+        let mut bytes = full.clone();
+        bytes.resize(length, 7);
+        bytes
+    };
+    let rows: &[(Vec<u8>, u32)] = &[
+        (b"".to_vec(), 10),
+        (b"P5".to_vec(), 10),
+        (b"P6\n1 1\n255\n\x01\x01\x01".to_vec(), 10),
+        (b"P5\n#\n1 1\n255\n\x01".to_vec(), 10),
+        (b"P5\n000001 1\n255\n\x01".to_vec(), 10),
+        (b"P5\n3 3 ".to_vec(), 10),
+        (picture("P5\n3 3\n255\n", &[1; 9]), 11),
+        (picture("P5\n1 2\n255\n", &[1; 2]), 11),
+        (picture("P5\n512 512\n0\n", &[]), 11),
+        (picture("P5\n1 1\n0\n", &[0]), 12),
+        (picture("P5\n1 1\n256\n", &[0]), 12),
+        (picture("P5\n1 1\n99999\n", &[]), 12),
+        (picture("P5\n1 1\n255\n", &[]), 13),
+        (picture("P5\n1 1\n255\r\n", &[1]), 13),
+        (picture("P5\n1 1\n9\n", &[10, 10]), 13),
+        (picture("P5\n128 128\n255\n", &[1; 4096]), 13),
+        (picture("P5\n1 1\n9\n", &[10]), 14),
+        (vec![0; 8192], 10),
+        (padded(8192), 13),
+        (vec![0; 8193], 15),
+        (padded(8193), 15),
+        (picture("P5\n128 128\n255\n", &[1; 16384]), 15),
+        (vec![80; 100_000], 15),
+    ];
+    for (input, number) in rows {
+        assert_eq!(printed(input), format!("refused {number}\n"), "{} bytes", input.len());
+        cases.ran();
+    }
+    cases.end();
+}
+
+/// The largest picture that fits, 64 by 64: one colour; a row each; a pixel each, in rising location code.
+#[test]
+fn largest_pictures_printed() {
+    let mut cases = Cases::of("largest pictures printed");
+    assert_eq!(printed(&picture("P5\n64 64\n255\n", &[7; 4096])), "M0 0H64V64H0Z\n");
+    cases.ran();
+
+    let stripes: Vec<u8> = (0..4096).map(|i| (i / 64 % 2) as u8).collect();
+    let text: String = (0..64).map(|y| format!("M0 {y}H64V{}H0Z\n", y + 1)).collect();
+    assert_eq!(printed(&picture("P5\n64 64\n1\n", &stripes)), text);
+    cases.ran();
+
+    let board: Vec<u8> = (0..4096).map(|i| ((i + i / 64) % 2) as u8).collect();
+    let even = |code: usize| (0..6).map(|i| (code >> (2 * i) & 1) << i).sum::<usize>();
+    let text: String = (0..4096)
+        .map(|code| (even(code), even(code >> 1)))
+        .map(|(x, y)| format!("M{x} {y}H{}V{}H{x}Z\n", x + 1, y + 1))
+        .collect();
+    assert_eq!(printed(&picture("P5\n64 64\n1\n", &board)), text);
+    cases.ran();
+
+    // Exactly 8,192 bytes, with white space in the header.
+    let mut bytes = b"P5".to_vec();
+    bytes.resize(8192 - 4096 - 10, b'\n');
+    bytes.extend_from_slice(b"64 64 255\n");
+    bytes.extend_from_slice(&[7; 4096]);
+    assert_eq!(bytes.len(), 8192);
+    assert_eq!(printed(&bytes), "M0 0H64V64H0Z\n");
+    cases.ran();
+    cases.end();
+}
+
+/// Rasters of every kind up to 64 by 64 against the separate tracer: "one line a region: the path data of its cycles joined".
+#[test]
+fn rasters_printed() {
+    let mut cases = Cases::of("rasters printed");
+    let mut random = Random::of("rasters printed");
+    for n in 0..=6 {
+        for raster in rasters::of_every_kind(&mut random, n) {
+            let regions = Regions::of(n, &raster);
+            let outlines = Outlines::of(&regions);
+            let mut lines = vec![String::new(); regions.count as usize];
+            for k in 0..outlines.len() {
+                lines[outlines.owners[k] as usize] += &svg(outlines.cycle(k));
+            }
+            let text: String = lines.iter().map(|line| line.clone() + "\n").collect();
+            let side = 1 << n;
+            assert_eq!(printed(&picture(&format!("P5\n{side} {side}\n255\n"), &raster)), text, "n = {n}");
+            cases.ran();
+        }
+    }
+    cases.end();
+}
