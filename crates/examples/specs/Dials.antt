@@ -8,9 +8,10 @@ use lib.Dec.{eqb}
 use borrow.Author.Tests.{eqb-true}
 use Rattle.quadtree.specs.Blocks.{blocks, paint}
 use Rattle.quadtree.specs.Number.{number}
-use Rattle.components.specs.Numbers.{numbers, regions, labels}
-use Rattle.lattice.specs.Tests.{and-both}
-use Rattle.grid.specs.Listing.{Cycle, listing, owners, ends, allCorners, pointsAt, cycleCount, cornerCount}
+use Rattle.components.specs.Numbers.{regions, labels}
+use Rattle.sequences.specs.Cases.{and-both}
+use Rattle.grid.specs.Listing.{Cycle, owners, ends, allCorners, pointsAt, cycleCount, cornerCount}
+use Rattle.tracing.specs.Tracing.{outlinesOf}
 use Rattle.paths.specs.Chain.{chainOf}
 use Rattle.printing.specs.Lines.{dataOf}
 
@@ -41,18 +42,17 @@ unfoldable pub pixelsOf : Dial → List ℕ
 unfolding paint blocks
 pixelsOf d = paint (blocks (d .codes) (d .levels) (d .colours))
 
-unfoldable pub outlinesOf : Dial → List Cycle
-unfolding listing numbers regions pixelsOf
-outlinesOf d = listing (d .n) (numbers (d .n) (pixelsOf d)) (regions (d .n) (pixelsOf d))
+abbrev pub traced : Dial → List Cycle
+traced d = outlinesOf (d .n) (d .codes) (d .levels) (d .colours)
 
 -- A saying, as equations.
 abbrev pub Holds : Dial → Saying → Type 0
 Holds d (answer k) = number (d .n) (d .codes) (d .levels) (d .colours) ≡ k
 Holds d (labelled ls) = labels (d .n) (blocks (d .codes) (d .levels) (d .colours)) ≡ ls
-Holds d (counted r c k) = (regions (d .n) (pixelsOf d) ≡ r) × (cycleCount (outlinesOf d) ≡ c) × (cornerCount (outlinesOf d) ≡ k)
-Holds d (outlined os es cs) = (owners (outlinesOf d) ≡ os) × (ends (outlinesOf d) ≡ es) × (allCorners (outlinesOf d) ≡ cs)
-Holds d (path r bytes) = dataOf r (outlinesOf d) ≡ bytes
-Holds d (chain k p bytes) = (getD (pointsAt (outlinesOf d) k) 0 0 ≡ p) × (chainOf (pointsAt (outlinesOf d) k) ≡ bytes)
+Holds d (counted r c k) = (regions (d .n) (pixelsOf d) ≡ r) × (cycleCount (traced d) ≡ c) × (cornerCount (traced d) ≡ k)
+Holds d (outlined os es cs) = (owners (traced d) ≡ os) × (ends (traced d) ≡ es) × (allCorners (traced d) ≡ cs)
+Holds d (path r bytes) = dataOf r (traced d) ≡ bytes
+Holds d (chain k p bytes) = (getD (pointsAt (traced d) k) 0 0 ≡ p) × (chainOf (pointsAt (traced d) k) ≡ bytes)
 
 -- All that is said of a dial, and of each dial of a table.
 abbrev pub Each : Dial → List Saying → Type 0
@@ -75,10 +75,10 @@ unfoldable pub holds : Dial → Saying → Bool
 unfolding number labels blocks regions pixelsOf outlinesOf cycleCount cornerCount owners ends allCorners pointsAt dataOf chainOf same
 holds d (answer k) = eqb (number (d .n) (d .codes) (d .levels) (d .colours)) k
 holds d (labelled ls) = same (labels (d .n) (blocks (d .codes) (d .levels) (d .colours))) ls
-holds d (counted r c k) = eqb (regions (d .n) (pixelsOf d)) r && (eqb (cycleCount (outlinesOf d)) c && eqb (cornerCount (outlinesOf d)) k)
-holds d (outlined os es cs) = same (owners (outlinesOf d)) os && (same (ends (outlinesOf d)) es && same (allCorners (outlinesOf d)) cs)
-holds d (path r bytes) = same (dataOf r (outlinesOf d)) bytes
-holds d (chain k p bytes) = eqb (getD (pointsAt (outlinesOf d) k) 0 0) p && same (chainOf (pointsAt (outlinesOf d) k)) bytes
+holds d (counted r c k) = eqb (regions (d .n) (pixelsOf d)) r && (eqb (cycleCount (traced d)) c && eqb (cornerCount (traced d)) k)
+holds d (outlined os es cs) = same (owners (traced d)) os && (same (ends (traced d)) es && same (allCorners (traced d)) cs)
+holds d (path r bytes) = same (dataOf r (traced d)) bytes
+holds d (chain k p bytes) = eqb (getD (pointsAt (traced d) k) 0 0) p && same (chainOf (pointsAt (traced d) k)) bytes
 
 unfoldable pub each : Dial → List Saying → Bool
 unfolding holds
@@ -105,17 +105,17 @@ unfolding holds
 holds-says d (answer k) h = eqb-true (number (d .n) (d .codes) (d .levels) (d .colours)) k h
 holds-says d (labelled ls) h = same-says (labels (d .n) (blocks (d .codes) (d .levels) (d .colours))) ls h
 holds-says d (counted r c k) h =
-    let a = and-both (eqb (regions (d .n) (pixelsOf d)) r) (eqb (cycleCount (outlinesOf d)) c && eqb (cornerCount (outlinesOf d)) k) h in
-    let b = and-both (eqb (cycleCount (outlinesOf d)) c) (eqb (cornerCount (outlinesOf d)) k) (a .1) in
-    (eqb-true (regions (d .n) (pixelsOf d)) r (a .0), eqb-true (cycleCount (outlinesOf d)) c (b .0), eqb-true (cornerCount (outlinesOf d)) k (b .1))
+    let a = and-both (eqb (regions (d .n) (pixelsOf d)) r) (eqb (cycleCount (traced d)) c && eqb (cornerCount (traced d)) k) h in
+    let b = and-both (eqb (cycleCount (traced d)) c) (eqb (cornerCount (traced d)) k) (a .1) in
+    (eqb-true (regions (d .n) (pixelsOf d)) r (a .0), eqb-true (cycleCount (traced d)) c (b .0), eqb-true (cornerCount (traced d)) k (b .1))
 holds-says d (outlined os es cs) h =
-    let a = and-both (same (owners (outlinesOf d)) os) (same (ends (outlinesOf d)) es && same (allCorners (outlinesOf d)) cs) h in
-    let b = and-both (same (ends (outlinesOf d)) es) (same (allCorners (outlinesOf d)) cs) (a .1) in
-    (same-says (owners (outlinesOf d)) os (a .0), same-says (ends (outlinesOf d)) es (b .0), same-says (allCorners (outlinesOf d)) cs (b .1))
-holds-says d (path r bytes) h = same-says (dataOf r (outlinesOf d)) bytes h
+    let a = and-both (same (owners (traced d)) os) (same (ends (traced d)) es && same (allCorners (traced d)) cs) h in
+    let b = and-both (same (ends (traced d)) es) (same (allCorners (traced d)) cs) (a .1) in
+    (same-says (owners (traced d)) os (a .0), same-says (ends (traced d)) es (b .0), same-says (allCorners (traced d)) cs (b .1))
+holds-says d (path r bytes) h = same-says (dataOf r (traced d)) bytes h
 holds-says d (chain k p bytes) h =
-    let a = and-both (eqb (getD (pointsAt (outlinesOf d) k) 0 0) p) (same (chainOf (pointsAt (outlinesOf d) k)) bytes) h in
-    (eqb-true (getD (pointsAt (outlinesOf d) k) 0 0) p (a .0), same-says (chainOf (pointsAt (outlinesOf d) k)) bytes (a .1))
+    let a = and-both (eqb (getD (pointsAt (traced d) k) 0 0) p) (same (chainOf (pointsAt (traced d) k)) bytes) h in
+    (eqb-true (getD (pointsAt (traced d) k) 0 0) p (a .0), same-says (chainOf (pointsAt (traced d) k)) bytes (a .1))
 
 pub each-says : (d : Dial) (ss : List Saying) → each d ss ≡ true → Each d ss
 unfolding each

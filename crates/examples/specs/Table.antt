@@ -4,12 +4,12 @@ use mathlib.Core.List.{List, [], _∷_, map}
 use Prim.Native.Nat.{ℕ, _+_}
 use Rattle.quadtree.specs.Blocks.{blocks}
 use Rattle.components.specs.Numbers.{labels}
-use Rattle.lattice.specs.Tests.{isEven}
+use Rattle.lattice.specs.Parity.{isEven}
 use Rattle.lattice.specs.Directions.{point, xOf, yOf}
 use Rattle.lattice.specs.Walks.{outline}
 use Rattle.paths.specs.Decimal.{decimal}
 use Rattle.paths.specs.Chain.{chainOf, bytesOf, byteOf}
-use Rattle.examples.specs.Dials.{Saying, answer, labelled, counted, outlined, path, chain, Dial, AllHold, allHold, all-say}
+use Rattle.examples.specs.Dials.{answer, labelled, counted, outlined, path, chain, Dial, AllHold, allHold, all-say}
 
 -- Path data as bytes, for numbers of one digit, with m for M, h for H, v for V and z for Z: `m 0 1 (h 2 (z []))` is the text M0 1H2Z.
 unfoldable pub m : ℕ → ℕ → List ℕ → List ℕ

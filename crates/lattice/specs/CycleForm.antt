@@ -12,7 +12,8 @@ use native.Mathlib.Omega.{arith}
 use lib.ListN.{length, getD, List·getD-eq-default}
 use lib.Dec.{eqb, leb, ltb}
 use borrow.Author.Tests.{eq-eqb, ne-eqb, eqb-true, eqb-false, leb-true, le-leb, ltb-true, lt-ltb}
-use Rattle.lattice.specs.Tests.{and-both, and-true-true, then-both, not-flips, isEven, zero-even, even-yes, even-not, even-next}
+use Rattle.sequences.specs.Cases.{and-both, both-and, then-both, not-flips}
+use Rattle.lattice.specs.Parity.{isEven, zero-even, even-yes, even-not, even-next}
 use Rattle.lattice.specs.Directions.{xOf, yOf}
 
 -- Coordinates at most 256.
@@ -101,12 +102,12 @@ along-y-says p q h =
 pub says-along-x : (p q : ℕ) → AlongX p q → along true p q ≡ true
 unfolding along alongX
 says-along-x p q a =
-    and-true-true (eqb (yOf p) (yOf q)) (not (eqb (xOf p) (xOf q))) (eq-eqb (yOf p) (yOf q) (a .same-row)) (ap not (ne-eqb (xOf p) (xOf q) (a .moves)))
+    both-and (eqb (yOf p) (yOf q)) (not (eqb (xOf p) (xOf q))) (eq-eqb (yOf p) (yOf q) (a .same-row)) (ap not (ne-eqb (xOf p) (xOf q) (a .moves)))
 
 pub says-along-y : (p q : ℕ) → AlongY p q → along false p q ≡ true
 unfolding along alongY
 says-along-y p q a =
-    and-true-true (eqb (xOf p) (xOf q)) (not (eqb (yOf p) (yOf q))) (eq-eqb (xOf p) (xOf q) (a .same-column)) (ap not (ne-eqb (yOf p) (yOf q) (a .moves)))
+    both-and (eqb (xOf p) (xOf q)) (not (eqb (yOf p) (yOf q))) (eq-eqb (xOf p) (xOf q) (a .same-column)) (ap not (ne-eqb (yOf p) (yOf q) (a .moves)))
 
 pub inside-says : (p : ℕ) → inside p ≡ true → (xOf p ≤ 256) × (yOf p ≤ 256)
 unfolding inside
@@ -116,7 +117,7 @@ inside-says p h =
 
 pub says-inside : (p : ℕ) → xOf p ≤ 256 → yOf p ≤ 256 → inside p ≡ true
 unfolding inside
-says-inside p h k = and-true-true (leb (xOf p) 256) (leb (yOf p) 256) (le-leb (xOf p) 256 h) (le-leb (yOf p) 256 k)
+says-inside p h k = both-and (leb (xOf p) 256) (leb (yOf p) 256) (le-leb (xOf p) 256 h) (le-leb (yOf p) 256 k)
 
 pub all-inside-at : (cs : List ℕ) → allInside cs ≡ true → (i : ℕ) → i < length cs → inside (getD cs i 0) ≡ true
 unfolding allInside
@@ -145,7 +146,7 @@ at-steps : (j p : ℕ) (qs : List ℕ) (first : ℕ) → isEven (j + length qs) 
 unfolding byTurns
 at-steps j p [] first odd f =
     let o : isEven j ≡ false = rw add-zero at odd in
-    and-true-true (not (isEven j)) (along (isEven j) p first) (ap not o) (rw add-zero at (f 0 (omega arith)))
+    both-and (not (isEven j)) (along (isEven j) p first) (ap not o) (rw add-zero at (f 0 (omega arith)))
 at-steps j p (q ∷ qs) first odd f =
     let e : j + suc (length qs) ≡ j + 1 + length qs = omega arith in
     rw (rw add-zero at (f 0 (omega arith)), byTurns)

@@ -8,7 +8,8 @@ use native.Mathlib.Decide.{ℕ-discrete}
 use native.Mathlib.Omega.{arith}
 use lib.ListN.{length, getD}
 use borrow.Author.Tests.{eqb-true, lt-ltb}
-use Rattle.lattice.specs.Tests.{and-both, and-true-true, then-both, isEven, even-yes, even-not, even-next, zero-even}
+use Rattle.sequences.specs.Cases.{and-both, both-and, then-both}
+use Rattle.lattice.specs.Parity.{isEven, even-yes, even-not, even-next, zero-even}
 use Rattle.lattice.specs.Directions.{xOf, yOf, move, opposite, tail, digit, head}
 use Rattle.lattice.specs.Walks.{corners, turns, lastOf}
 use Rattle.lattice.specs.Straight.{far, Room, far-one, far-step, room-more}
@@ -88,7 +89,7 @@ walk-turning : (es : List ℕ) → Goal es
 unfolding Walk Proper turns byTurns endDigit
 walk-turning [] d k c close h pos r w p odd =
     let a : along (isEven d) c close ≡ true = rw w at (far-along d k c h pos r) in
-    and-true-true (not (isEven d)) (along (isEven d) c close) (ap not (even-not d odd)) a
+    both-and (not (isEven d)) (along (isEven d) c close) (ap not (even-not d odd)) a
 walk-turning (e ∷ es) d k c close h pos r w p odd = pick (walk-turning es) (ℕ-discrete d (digit e))
   where
     pick : Goal es → Dec (d ≡ digit e) → byTurns (isEven d) c (turns d (e ∷ es)) close ≡ true

@@ -1,5 +1,5 @@
 -- Points, directions, walks, corners and cycle form.
-pub mod Tests
+pub mod Parity
 pub mod Directions
 pub mod Walks
 pub mod CycleForm

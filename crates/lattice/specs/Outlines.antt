@@ -6,7 +6,7 @@ use mathlib.Core.List.{List, [], _∷_, _++_, append-nil}
 use Prim.Native.Nat.{ℕ, zero, suc, _+_, _%_, _<_}
 use native.Mathlib.Omega.{arith}
 use lib.ListN.{length, length-append}
-use Rattle.lattice.specs.Tests.{and-both, then-both, not-flips}
+use Rattle.sequences.specs.Cases.{and-both, then-both, not-flips}
 use Rattle.lattice.specs.Directions.{move, edge, tail, digit}
 use Rattle.lattice.specs.Walks.{run, straight, walkFrom, outline, turns, lastOf, corners}
 use Rattle.lattice.specs.Corners.{turns-on, turns-turn}

@@ -1,4 +1,5 @@
--- The blocks of a region one after the other, and where along them outlines start.
+-- The outlines of an image; the blocks of a region one after the other, and where along them outlines start.
+pub mod Image
 pub mod Rising
 pub mod TopRows
 pub mod Links

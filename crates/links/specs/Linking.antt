@@ -24,7 +24,7 @@ pub record Linkable (whole count : ℕ) (ls w : List ℕ) : Type 0 where
 pub record Linked (whole count : ℕ) (ls w₀ w : List ℕ) : Type 0 where
   pub long : length w ≡ length w₀
   pub nexts : (i : ℕ) → i < count → getD w (whole + i) 0 ≡ firstFrom (labelAt ls) count (getD ls i 0) (suc i)
-  pub beyond : (i : ℕ) → whole + whole ≤ i → getD w i 0 ≡ getD w₀ i 0
+  pub beyond : (i : ℕ) → whole + count ≤ i → getD w i 0 ≡ getD w₀ i 0
 
 -- The places from j on are linked, and the entry r is the head of the label r: 1 plus its first place from j on.
 pub record Linking (whole count : ℕ) (ls w₀ w : List ℕ) (j : ℕ) : Type 0 where
@@ -32,7 +32,7 @@ pub record Linking (whole count : ℕ) (ls w₀ w : List ℕ) (j : ℕ) : Type 0
   pub long : length w ≡ length w₀
   pub heads : (r : ℕ) → r < whole → getD w r 0 ≡ firstFrom (labelAt ls) count r j
   pub nexts : (i : ℕ) → j ≤ i → i < count → getD w (whole + i) 0 ≡ firstFrom (labelAt ls) count (getD ls i 0) (suc i)
-  pub beyond : (i : ℕ) → whole + whole ≤ i → getD w i 0 ≡ getD w₀ i 0
+  pub beyond : (i : ℕ) → whole + count ≤ i → getD w i 0 ≡ getD w₀ i 0
 
 module _ {whole count : ℕ} {ls w₀ : List ℕ} (ok : Linkable whole count ls w₀) where
   pub begin : Linking whole count ls w₀ w₀ count
@@ -106,7 +106,7 @@ module _ {whole count : ℕ} {ls w₀ : List ℕ} (ok : Linkable whole count ls 
       nexts = λ i a h. nexts-then i a h (ℕ-discrete i (d - 1));
       beyond = λ i h.
           getD-set-other once r i (d - 1 + 1) 0 (omega (arith, label-known))
-          ∙ getD-set-other w (whole + (d - 1)) i (getD w r 0) 0 (omega (arith, inside, ok .few))
+          ∙ getD-set-other w (whole + (d - 1)) i (getD w r 0) 0 (omega (arith, inside))
           ∙ g .beyond i h;
     }
 

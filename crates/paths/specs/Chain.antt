@@ -9,7 +9,7 @@ use native.Mathlib.Omega.{arith}
 use lib.ListN.{length, getD, drop, replicate, length-append, length-map, drop-of-length-le}
 use lib.Seq.{drop-cons}
 use borrow.Rule.Slice.PartMut.{midOf, putMid}
-use Rattle.lattice.specs.Tests.{then-both}
+use Rattle.sequences.specs.Cases.{then-both}
 use Rattle.lattice.specs.Directions.{digit, move}
 use Rattle.lattice.specs.Walks.{run, straight, walkFrom, outline}
 use Rattle.lattice.specs.CycleForm.{inside, allInside, cycleForm, parts, after, all-inside-at}

@@ -8,7 +8,7 @@ use Prim.Native.Nat.{ℕ, zero, suc, _+_, _-_, _≤_, _<_}
 use lib.Dec.{eqb, leb, ltb}
 use lib.ListN.{length, getD}
 use borrow.Author.Tests.{leb-true, le-leb}
-use Rattle.lattice.specs.Tests.{and-both}
+use Rattle.sequences.specs.Cases.{and-both}
 use Rattle.lattice.specs.Directions.{xOf, yOf, move, opposite, edge}
 use Rattle.lattice.specs.Walks.{corners, lastOf}
 use Rattle.lattice.specs.CycleForm.{inside}

@@ -8,7 +8,7 @@ use native.Mathlib.Numerals.{add-one}
 use native.Mathlib.Omega.{arith}
 use lib.ListN.{length, getD}
 use borrow.Author.Tests.{eq-eqb, eqb-true}
-use Rattle.lattice.specs.Tests.{then-both}
+use Rattle.sequences.specs.Cases.{then-both}
 use Rattle.lattice.specs.Directions.{move, opposite}
 use Rattle.lattice.specs.CycleForm.{inside-says, says-inside}
 use Rattle.paths.specs.ChainForm.{digitOf, allowed, leads, lastByte, firstEast, isAcross, lastAcross, closes, pointAt, chainForm, ChainForm, ChainParts, chain-parts, from-chain-parts}

@@ -6,7 +6,7 @@ use mathlib.Core.List.{List, [], _∷_}
 use Prim.Native.Nat.{ℕ, zero, suc, _+_, _-_, _%_, _<_}
 use native.Mathlib.Omega.{arith}
 use borrow.Author.Tests.{eqb-true}
-use Rattle.lattice.specs.Tests.{then-both}
+use Rattle.sequences.specs.Cases.{then-both}
 use Rattle.lattice.specs.Directions.{xOf, yOf, move, edge, tail, digit, head}
 use Rattle.lattice.specs.Walks.{outline, corners, lastOf}
 use Rattle.lattice.specs.Straight.{Room}

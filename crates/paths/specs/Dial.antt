@@ -3,7 +3,7 @@ use mathlib.Core.Path.{_≡_, refl}
 use mathlib.Core.Bool.{true}
 use mathlib.Core.List.{List, [], _∷_}
 use Prim.Native.Nat.{ℕ}
-use Rattle.lattice.specs.Tests.{isEven}
+use Rattle.lattice.specs.Parity.{isEven}
 use Rattle.lattice.specs.Directions.{point, xOf, yOf, move, opposite, edge, tail, digit}
 use Rattle.lattice.specs.Walks.{outline, corners, turns, lastOf}
 use Rattle.lattice.specs.CycleForm.{cycleForm, allInside, inside, eastward, steps, byTurns, along, alongX, alongY}

@@ -8,7 +8,7 @@ use native.Mathlib.Decide.{ℕ-discrete}
 use native.Mathlib.Omega.{arith}
 use lib.ListN.{length, getD}
 use borrow.Author.Tests.{eq-eqb, lt-ltb, ltb-true}
-use Rattle.lattice.specs.Tests.{then-both}
+use Rattle.sequences.specs.Cases.{then-both}
 use Rattle.lattice.specs.Directions.{xOf, yOf, move, opposite, edge, tail, digit, head}
 use Rattle.lattice.specs.Walks.{run, straight, walkFrom, outline, corners, lastOf}
 use Rattle.lattice.specs.Straight.{far, Room, far-zero, far-first, room-first}

@@ -11,7 +11,7 @@ use lib.Dec.{eqb, leb}
 use lib.ListN.{length, getD, drop, set, drop-of-length-le}
 use lib.Seq.{drop-cons}
 use borrow.Author.Tests.{eq-eqb, ne-eqb, eqb-false, leb-true, le-leb, ltb-true}
-use Rattle.lattice.specs.Tests.{and-both, and-true-true, then-both, not-flips}
+use Rattle.sequences.specs.Cases.{and-both, both-and, then-both, not-flips}
 use Rattle.lattice.specs.Directions.{xOf, yOf, move, rightOf, opposite, edge}
 use Rattle.lattice.specs.Walks.{turns}
 use Rattle.lattice.specs.Corners.{turns-on, turns-turn}
@@ -53,9 +53,9 @@ allowed-says d p b h =
 pub says-allowed : (d p b : ℕ) → Allowed d p b → allowed d p b ≡ true
 unfolding allowed isDigit
 says-allowed d p b a =
-    and-true-true (leb 48 b && leb b 51) (not (eqb (digitOf b) (opposite d)) && free (digitOf b) p)
-    (and-true-true (leb 48 b) (leb b 51) (le-leb 48 b (a .low)) (le-leb b 51 (a .high)))
-    (and-true-true (not (eqb (digitOf b) (opposite d))) (free (digitOf b) p) (ap not (ne-eqb (digitOf b) (opposite d) (a .onward))) (a .stays))
+    both-and (leb 48 b && leb b 51) (not (eqb (digitOf b) (opposite d)) && free (digitOf b) p)
+    (both-and (leb 48 b) (leb b 51) (le-leb 48 b (a .low)) (le-leb b 51 (a .high)))
+    (both-and (not (eqb (digitOf b) (opposite d))) (free (digitOf b) p) (ap not (ne-eqb (digitOf b) (opposite d) (a .onward))) (a .stays))
 
 pub digit-below : {d p b : ℕ} → Allowed d p b → digitOf b < 4
 unfolding digitOf

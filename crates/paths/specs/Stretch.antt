@@ -7,7 +7,7 @@ use native.Mathlib.Omega.{arith}
 use lib.Dec.{ltb, leb}
 use lib.ListN.{length, getD, take, drop}
 use borrow.Author.Tests.{lt-ltb, le-ltb, le-leb, lt-leb, leb-true}
-use Rattle.lattice.specs.Tests.{and-both}
+use Rattle.sequences.specs.Cases.{and-both}
 use Rattle.paths.specs.declared.Stretch.{Stretch}
 
 -- "It begins at 0 for k = 0, else at the end of cycle k - 1"; it ends at the end of cycle k.

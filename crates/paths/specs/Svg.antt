@@ -9,7 +9,8 @@ use native.Mathlib.Omega.{arith}
 use native.Mathlib.Numerals.{add-one}
 use lib.ListN.{length, getD, drop, length-append, drop-of-length-le}
 use lib.Seq.{drop-cons}
-use Rattle.lattice.specs.Tests.{isEven, then-both, even-yes, even-not}
+use Rattle.sequences.specs.Cases.{then-both}
+use Rattle.lattice.specs.Parity.{isEven, even-yes, even-not}
 use Rattle.lattice.specs.Directions.{xOf, yOf}
 use Rattle.lattice.specs.CycleForm.{inside, allInside, cycleForm, parts, inside-says}
 use Rattle.paths.specs.Decimal.{decimal, decimal-length}

@@ -10,14 +10,13 @@ use native.Mathlib.Omega.{arith}
 use lib.ListN.{length, getD, length-append, length-map}
 use lib.Dec.{eqb, ltb}
 use borrow.Author.Tests.{ltb-false, eqb-true, le-ltb, eq-eqb, not-false}
-use Rattle.sequences.specs.Cases.{first, when, first-zero, when-zero}
+use Rattle.sequences.specs.Cases.{first, when, first-zero, when-zero, and-both}
 use Rattle.sequences.specs.Powers.{pow4-pos}
 use Rattle.quadtree.specs.Blocks.{Block, blocks, paint}
 use Rattle.quadtree.specs.Quadtree.{alike, quadrant, quadtree}
 use Rattle.quadtree.specs.Number.{cover, siblings, number}
 use Rattle.quadtree.specs.Covering.{covers-of-zero, zero-of-covers}
 use Rattle.quadtree.specs.Painting.{block, alike-each, each-alike, quadrant-pixel, quadrant-one, quadrant-four}
-use Rattle.quadtree.specs.Siblings.{both-true}
 use Rattle.quadtree.specs.Trees.{Tree, leaf, node, flat, Reduced, flat-leaf, flat-node, quadtree-flat}
 use Rattle.quadtree.specs.Parsing.{tree-of-covering, covering-of-tree}
 use Rattle.quadtree.specs.Reducing.{none-reduced}
@@ -147,7 +146,7 @@ number-zero n cs ls ks h =
     let h1 = first-zero (when (ltb 8 n) 1) _ h in
     let h2 = first-zero (when (not (eqb (length cs) (length ls) && eqb (length ls) (length ks))) 2) _ (h1 .1) in
     let h3 = first-zero (cover n 0 (blocks cs ls ks)) (when (siblings n (blocks cs ls ks)) 7) (h2 .1) in
-    let same = both-true (eqb (length cs) (length ls)) (eqb (length ls) (length ks)) (not-false _ (when-zero _ 2 (omega arith) (h2 .0))) in
+    let same = and-both (eqb (length cs) (length ls)) (eqb (length ls) (length ks)) (not-false _ (when-zero _ 2 (omega arith) (h2 .0))) in
     record {
       small = ltb-false 8 n (when-zero (ltb 8 n) 1 (omega arith) (h1 .0));
       equal-levels = eqb-true (length cs) (length ls) (same .0);

@@ -1,10 +1,11 @@
 -- Four successive blocks that could be one: what cause 7 says, as facts.
 use mathlib.Core.Path.{_≡_, refl, sym, ap, _∙_}
-use mathlib.Core.Bool.{Bool, true, false, _&&_, false≢true, true≢false}
+use mathlib.Core.Bool.{Bool, true, false, false≢true, true≢false}
 use mathlib.Core.List.{List, [], _∷_, _++_}
 use Prim.Native.Nat.{ℕ, suc, _%_, _^_, _<_}
 use lib.Dec.{eqb, ltb}
 use borrow.Author.Tests.{ltb-true, eqb-true, lt-ltb, eq-eqb}
+use Rattle.sequences.specs.Cases.{and-both}
 use Rattle.quadtree.specs.Blocks.{Block}
 use Rattle.quadtree.specs.Number.{mergeable, siblings}
 
@@ -19,20 +20,16 @@ pub record Mergeable (n : ℕ) (a b c d : Block) : Type 0 where
   pub colour-c : c .colour ≡ a .colour
   pub colour-d : d .colour ≡ a .colour
 
-pub both-true : (a b : Bool) → a && b ≡ true → (a ≡ true) × (b ≡ true)
-both-true true b h = (refl, h)
-both-true false b h = absurd (false≢true h)
-
 pub mergeable-facts : (n : ℕ) (a b c d : Block) → mergeable n a b c d ≡ true → Mergeable n a b c d
 unfolding mergeable
 mergeable-facts n a b c d h =
-    let h0 = both-true (ltb (a .level) n) _ h in
-    let h1 = both-true (eqb (a .code % 4 ^ suc (a .level)) 0) _ (h0 .1) in
-    let h2 = both-true (eqb (b .level) (a .level)) _ (h1 .1) in
-    let h3 = both-true (eqb (c .level) (a .level)) _ (h2 .1) in
-    let h4 = both-true (eqb (d .level) (a .level)) _ (h3 .1) in
-    let h5 = both-true (eqb (b .colour) (a .colour)) _ (h4 .1) in
-    let h6 = both-true (eqb (c .colour) (a .colour)) (eqb (d .colour) (a .colour)) (h5 .1) in
+    let h0 = and-both (ltb (a .level) n) _ h in
+    let h1 = and-both (eqb (a .code % 4 ^ suc (a .level)) 0) _ (h0 .1) in
+    let h2 = and-both (eqb (b .level) (a .level)) _ (h1 .1) in
+    let h3 = and-both (eqb (c .level) (a .level)) _ (h2 .1) in
+    let h4 = and-both (eqb (d .level) (a .level)) _ (h3 .1) in
+    let h5 = and-both (eqb (b .colour) (a .colour)) _ (h4 .1) in
+    let h6 = and-both (eqb (c .colour) (a .colour)) (eqb (d .colour) (a .colour)) (h5 .1) in
     record {
       below = ltb-true (a .level) n (h0 .0);
       multiple = eqb-true (a .code % 4 ^ suc (a .level)) 0 (h1 .0);

@@ -1,6 +1,6 @@
 -- The first of several causes that applies, and tests that agree.
-use mathlib.Core.Path.{_≡_, refl, sym, ap, ap₂, _∙_}
-use mathlib.Core.Bool.{Bool, true, false, _&&_, _||_, false≢true}
+use mathlib.Core.Path.{_≡_, refl, sym, ap, ap₂}
+use mathlib.Core.Bool.{Bool, true, false, not, _&&_, _||_, false≢true}
 use mathlib.Core.List.{List, []}
 use Prim.Native.Nat.{ℕ, zero, suc, _<_}
 use native.Mathlib.Omega.{arith}
@@ -70,6 +70,15 @@ and-both false b h = absurd (false≢true h)
 
 pub both-and : (a b : Bool) → a ≡ true → b ≡ true → a && b ≡ true
 both-and a b p q = ap₂ _&&_ p q
+
+-- A test that is met before the other is asked.
+pub then-both : (a b : Bool) → _≡_ {A = Bool} (elim a [ true ↦ b | false ↦ false ]) true → (a ≡ true) × (b ≡ true)
+then-both true b h = (refl, h)
+then-both false b h = absurd (false≢true h)
+
+pub not-flips : (b : Bool) → not b ≡ true → b ≡ false
+not-flips true h = absurd (false≢true h)
+not-flips false h = refl
 
 -- What is written where the number is 0; a refusal writes nothing.
 unfoldable pub ifAccepted {ℓ} : {A : Type ℓ} → ℕ → List A → List A

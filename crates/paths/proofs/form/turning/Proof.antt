@@ -1,7 +1,7 @@
 -- The loop's invariant: the test of the steps from the corner at i on is the test of all steps. The last step closes, along y only
 -- if the last place is odd. The measure: the steps left.
 use borrow.Author.Tests.{ne-eqb, not-true, not-false}
-use Rattle.lattice.specs.Tests.{isEven}
+use Rattle.lattice.specs.Parity.{isEven}
 use Rattle.lattice.specs.CycleForm.{steps}
 use Rattle.paths.specs.Scan.{stepsFrom, steps-begin, steps-on, steps-off, steps-closing, steps-open}
 use mathlib.Core.Path.{_≡_, sym, ap, _∙_}
