@@ -26,10 +26,6 @@ pub spread-two : (x : ℕ) → code 2 x 0 ≡ x % 2 + 4 * (x / 2 % 2)
 unfolding code
 spread-two x = omega arith
 
-pub column-of-two : (c : ℕ) → column 2 c ≡ c % 2 + 2 * (c / 4 % 2)
-unfolding column
-column-of-two c = omega arith
-
 -- The odd places of a code are the even ones of its half.
 pub row-is-column-of-half : (k c : ℕ) → row k c ≡ column k (c / 2)
 unfolding column row

@@ -1,7 +1,8 @@
 // Location codes and levels: the arithmetic of section 2's quadrants, below everything that knows blocks.
 ghost use mathlib.Core.Path.{_≡_};
-ghost use Prim.Native.Nat.{_/_};
+ghost use Prim.Native.Nat.{_+_, _*_, _/_, _%_, _^_};
 ghost use Rattle.location.specs.Codes.{code, column, row};
+ghost use Rattle.location.specs.Gathering.{groups};
 ghost use Rattle.location.specs.Levels.{sideOf, pixelsOf, topLevel};
 
 // The two low binary digits of x, spread: a 0 stands after each. So the 4, 8 and 16 low ones, from two halves.
@@ -36,46 +37,55 @@ pub fn code(x: u16, y: u16) -> u32
     spread16(x as u32) + 2 * spread16(y as u32)
 }
 
-// The digits of c in the first two even places, and so in the first 4, 8 and 16, from two halves.
-fn evens2(c: u32) -> u32
-    ensures { λ r. ⌜ r ≡ column 2 c ⌝ }
+// The first 8 digits of x and of y, worked out together, x in the low half of the word and y in the high half: first one by one in
+// every second place, then in groups of two, then of four.
+fn fours(c: u32) -> u32
+    ensures { λ r. ⌜ r ≡ groups 4 4 (column 8 c + 256 * row 8 c) ⌝ }
 {
-    c % 2 + 2 * (c / 4 % 2)
+    let ones = (c & 0x5555) + 65536 * (c / 2 & 0x5555);
+    let twos = (ones | ones >> 1) & 0x3333_3333;
+    (twos | twos >> 2) & 0x0f0f_0f0f
 }
 
-fn evens4(c: u32) -> u32
-    ensures { λ r. ⌜ r ≡ column 4 c ⌝ }
+// Times 17, each group of four also stands next to the one above it: x whole from place 24 on, y from place 40 on. Lower down the
+// compiler would split the word and work x and y out apart.
+fn parted(c: u32) -> u64
+    ensures { λ r. ⌜ (r / 2 ^ 24 % 256 ≡ column 8 c) × (r / 2 ^ 40 % 256 ≡ row 8 c) ⌝ }
 {
-    evens2(c) + 4 * evens2(c / 16)
+    fours(c) as u64 * 0x110_0000
 }
 
-fn evens8(c: u32) -> u32
+// The first 8 digits of x, and those of y.
+fn column8(c: u32) -> u32
     ensures { λ r. ⌜ r ≡ column 8 c ⌝ }
 {
-    evens4(c) + 16 * evens4(c / 256)
+    ((parted(c) >> 24) % 256) as u32
 }
 
-fn evens16(c: u32) -> u16
-    ensures { λ r. ⌜ r ≡ column 16 c ⌝ }
+fn row8(c: u32) -> u32
+    ensures { λ r. ⌜ r ≡ row 8 c ⌝ }
 {
-    if c < 65536 {
-        return evens8(c) as u16;
-    }
-    (evens8(c) + 256 * evens8(c / 65536)) as u16
+    ((parted(c) >> 40) % 256) as u32
 }
 
 // x of the pixel with code c.
 pub fn column(c: u32) -> u16
     ensures { λ r. ⌜ r ≡ column 16 c ⌝ }
 {
-    evens16(c)
+    if c < 65536 {
+        return column8(c) as u16;
+    }
+    (column8(c) + 256 * column8(c / 65536)) as u16
 }
 
-// y of the pixel with code c: the odd places of c are the even ones of its half.
+// y of the pixel with code c.
 pub fn row(c: u32) -> u16
     ensures { λ r. ⌜ r ≡ row 16 c ⌝ }
 {
-    evens16(c / 2)
+    if c < 65536 {
+        return row8(c) as u16;
+    }
+    (row8(c) + 256 * row8(c / 65536)) as u16
 }
 
 // The side of a block of level l; 0 where it is above 64 bits.
