@@ -7,10 +7,10 @@ pub mod Checking
 pub mod Places
 pub mod Squares
 pub mod Growing
-pub mod Merging
 pub mod Quadrants
-pub mod Growth
 pub mod Filling
+pub mod Merging
+pub mod Growth
 pub mod Painting
 pub mod Rasters
 pub mod RoundTrip

@@ -1,21 +1,24 @@
 -- The loop that merges a raster: what it needs, what it leaves, what holds at its head.
-use mathlib.Core.Path.{_≡_, refl, sym, ap, ap₂, _∙_}
+use mathlib.Core.Path.{_≡_, refl, sym, ap, ap₂, _∙_, subst}
 use mathlib.Core.List.{List, [], _∷_, _++_, map, append-assoc, append-nil}
-use Prim.Native.Nat.{ℕ, _+_, _^_, _≤_, _<_}
+use Prim.Native.Nat.{ℕ, _+_, _%_, _^_, _≤_, _<_}
 use native.Mathlib.Omega.{arith}
 use lib.ListN.{length, getD, set, length-append, length-set, length-map}
 use Rattle.sequences.specs.Over.{over, over-none, over-push}
 use Rattle.sequences.specs.Powers.{pow4-pos, pow4-mono}
-use Rattle.location.specs.Levels.{topLevel, pixelsOf, pixels-are-power}
-use Rattle.location.specs.TopLevels.{top-level-fits}
+use Rattle.location.specs.Levels.{topLevel, sideOf, side-is-power, pixelsOf, pixels-are-power}
+use Rattle.location.specs.TopLevels.{top-level-fits, level-divides}
+use Rattle.location.specs.Squares.{square-in-image}
 use Rattle.quadtree.specs.Blocks.{Block, pixels}
 use Rattle.quadtree.specs.Fields.{codes, levels, colours}
 use Rattle.quadtree.specs.Quadtree.{quadtree}
 use Rattle.quadtree.specs.Painting.{pixels-quadtree}
 use Rattle.quadtree.specs.Raster.{place, inCodeOrder}
-use Rattle.quadtree.specs.Orders.{in-code-order-at}
+use Rattle.quadtree.specs.Orders.{in-code-order-at, place-in}
 use Rattle.quadtree.specs.Merging.{blockAt, mergedFrom, merged-more, merged-end, level-below}
 use Rattle.quadtree.specs.Merged.{merged-is-quadtree}
+use Rattle.blocks.specs.Filling.{fourStored}
+use Rattle.blocks.specs.Quadrants.{FourPlaces, four-places, level-of-other}
 
 -- A raster of side 2^n.
 pub record RasterOf (n : ℕ) (raster : List ℕ) : Type 0 where
@@ -63,6 +66,16 @@ pub record Turn (n : ℕ) (raster codes₁ levels₁ colours₁ : List ℕ) (cou
   pub in-codes : count < length codes₁
   pub in-levels : count < length levels₁
   pub in-colours : count < length colours₁
+
+-- The numbers of a turn that writes four single pixels from the code c on, the first at the place `at` in rows of w.
+pub record FourTurn (raster codes₁ levels₁ colours₁ : List ℕ) (count c at w : ℕ) : Type 0 where
+  pub few : count ≤ c
+  pub small : c + 4 ≤ 65536
+  pub in-codes : count + 3 < length codes₁
+  pub in-levels : count + 3 < length levels₁
+  pub in-colours : count + 3 < length colours₁
+  pub in-raster : at + w + 1 < length raster
+  pub on : c + 4 ≤ length raster
 
 map-one-more : {A : Type 0} (f : A → ℕ) (l : List A) (b : A) → map f (l ++ (b ∷ [])) ≡ map f l ++ (f b ∷ [])
 map-one-more f [] b = refl
@@ -153,6 +166,61 @@ module _ {n : ℕ} {raster codes₀ levels₀ colours₀ : List ℕ} (room : Roo
           in-levels = m .in-levels ∙ ap (λ (l : List Block). over (levels l) levels₀) all;
           in-colours = m .in-colours ∙ ap (λ (l : List Block). over (colours l) colours₀) all;
         }
+
+  -- A single pixel written, its colour read at its place.
+  merging-single : {codes₁ levels₁ colours₁ : List ℕ} {count c colour : ℕ} (m : Merging n raster codes₀ levels₀ colours₀ codes₁ levels₁ colours₁ count c) (count′ c′ : ℕ) → count + 1 ≡ count′ → c + 1 ≡ c′
+      → c < length raster → 0 ≡ blockAt n (inCodeOrder n raster) c .level → colour ≡ getD raster (place n c) 0
+      → Merging n raster codes₀ levels₀ colours₀ (set codes₁ count c) (set levels₁ count 0) (set colours₁ count colour) count′ c′
+  merging-single {codes₁} {levels₁} {colours₁} {count} {c} {colour} m count′ c′ e f inside el ek =
+      let next : c + 4 ^ 0 ≡ c′ = f in
+      subst (λ (k : ℕ). Merging n raster codes₀ levels₀ colours₀ (set codes₁ count c) (set levels₁ count 0) (set colours₁ count colour) k c′) e
+      (subst (Merging n raster codes₀ levels₀ colours₀ (set codes₁ count c) (set levels₁ count 0) (set colours₁ count colour) (count + 1)) next (merging-more m inside el ek))
+
+  -- A code that is no multiple of 4 has a single pixel.
+  single-after : (c : ℕ) → (c % 4 ≡ 0 → ⊥) → 0 ≡ blockAt n (inCodeOrder n raster) c .level
+  unfolding blockAt
+  single-after c h =
+      let top : topLevel n c ≡ 0 = level-of-other c (topLevel n c) (level-divides n c) h in
+      omega (arith, level-below (inCodeOrder n raster) c (topLevel n c))
+
+  -- Four single pixels from a multiple of 4 on, at the place `at` in rows of w.
+  module _ {codes₁ levels₁ colours₁ : List ℕ} {count c level at w : ℕ} (m : Merging n raster codes₀ levels₀ colours₀ codes₁ levels₁ colours₁ count c) (inside : c < length raster)
+      (el : level ≡ blockAt n (inCodeOrder n raster) c .level) (ea : at ≡ place n c) (ew : w ≡ sideOf n) (first : level + c % 4 ≡ 0) (some : 0 < n) where
+    multiple : c % 4 ≡ 0
+    multiple = omega arith
+
+    places : FourPlaces n c
+    places = four-places n c some (in-image m inside) multiple
+
+    wide : w ≡ 2 ^ n
+    wide = ew ∙ side-is-power n (omega (arith, room .small))
+
+    four-inside : c + 4 ≤ 4 ^ n
+    four-inside = square-in-image n 1 c some (in-image m inside) multiple .2
+
+    pub four-turn : FourTurn raster codes₁ levels₁ colours₁ count c at w
+    four-turn = record {
+      few = m .few;
+      small = omega (arith, four-inside, pow4-mono (room .small));
+      in-codes = omega (arith, four-inside, m .few, room .for-codes, m .codes-long);
+      in-levels = omega (arith, four-inside, m .few, room .for-levels, m .levels-long);
+      in-colours = omega (arith, four-inside, m .few, room .for-colours, m .colours-long);
+      in-raster = omega (arith, ea, wide, places .southeast, place-in n (c + 3), room .whole);
+      on = omega (arith, four-inside, room .whole);
+    }
+
+    pub merging-four : {codes₂ levels₂ colours₂ : List ℕ} → codes₂ ≡ fourStored 2 count c (c + 1) (c + 2) (c + 3) codes₁ → levels₂ ≡ fourStored 2 count 0 0 0 0 levels₁
+        → colours₂ ≡ fourStored 2 count (getD raster at 0) (getD raster (at + 1) 0) (getD raster (at + w) 0) (getD raster (at + w + 1) 0) colours₁
+        → Merging n raster codes₀ levels₀ colours₀ codes₂ levels₂ colours₂ (count + 4) (c + 4)
+    unfolding fourStored
+    merging-four {codes₂} {levels₂} {colours₂} ec els ek =
+        let within : (k : ℕ) → k < 4 → c + k < length raster = λ k h. omega (arith, four-inside, room .whole) in
+        let read : (p k : ℕ) → p ≡ place n (c + k) → getD raster p 0 ≡ getD raster (place n (c + k)) 0 = λ p k e. ap (λ (j : ℕ). getD raster j 0) e in
+        let nw = merging-single m (count + 1) (c + 1) refl refl inside (omega (arith, el)) (ap (λ (j : ℕ). getD raster j 0) ea) in
+        let ne = merging-single nw (count + 2) (c + 2) (omega arith) (omega arith) (within 1 (omega arith)) (single-after (c + 1) (λ h. omega (arith, multiple))) (read (at + 1) 1 (omega (arith, ea, places .east))) in
+        let sw = merging-single ne (count + 2 + 1) (c + 3) refl (omega arith) (within 2 (omega arith)) (single-after (c + 2) (λ h. omega (arith, multiple))) (read (at + w) 2 (omega (arith, ea, wide, places .south))) in
+        let se = merging-single sw (count + 4) (c + 4) (omega arith) (omega arith) (within 3 (omega arith)) (single-after (c + 3) (λ h. omega (arith, multiple))) (read (at + w + 1) 3 (omega (arith, ea, wide, places .southeast))) in
+        rw (ec, els, ek) se
 
 blocks-few : (bs : List Block) → length bs ≤ pixels bs
 unfolding pixels

@@ -1,5 +1,5 @@
 -- The four quadrants of a square one level up: where they lie in the raster, and when they have one colour.
-use mathlib.Core.Path.{_≡_, sym, ap, ap₂, _∙_, subst}
+use mathlib.Core.Path.{_≡_, refl, sym, ap, ap₂, _∙_, subst}
 use mathlib.Core.Bool.{true, _&&_}
 use mathlib.Core.List.{List}
 use Prim.Native.Nat.{ℕ, zero, suc, _+_, _*_, _/_, _%_, _^_, _≤_, _<_}
@@ -87,3 +87,21 @@ module _ (n l c : ℕ) (level : l + 1 ≤ n) (inside : c < 4 ^ n) (multiple : c 
       (ap₂ _&&_ (alike-at raster v 2 (place n c + 2 ^ l * 2 ^ n) (omega arith) south-place)
       (alike-at raster v 3 (place n c + 2 ^ l * 2 ^ n + 2 ^ l) (omega arith) southeast-place))
       ∙ sym (square-grows (inCodeOrder n raster) v c l first)
+
+-- The places of the four pixels from a multiple of 4 on.
+pub record FourPlaces (n c : ℕ) : Type 0 where
+  pub east : place n (c + 1) ≡ place n c + 1
+  pub south : place n (c + 2) ≡ place n c + 2 ^ n
+  pub southeast : place n (c + 3) ≡ place n c + 2 ^ n + 1
+
+pub four-places : (n c : ℕ) → 0 < n → c < 4 ^ n → c % 4 ≡ 0 → FourPlaces n c
+four-places n c level inside multiple = record {
+  east = east-place n 0 c level inside multiple;
+  south = south-place n 0 c level inside multiple ∙ omega arith;
+  southeast = southeast-place n 0 c level inside multiple ∙ omega arith;
+}
+
+-- A code that is no multiple of 4 starts a single pixel only.
+pub level-of-other : (c l : ℕ) → c % 4 ^ l ≡ 0 → (c % 4 ≡ 0 → ⊥) → l ≡ 0
+level-of-other c zero m h = refl
+level-of-other c (suc l) m h = absurd (h (lower-multiple c 1 (suc l) (omega arith) m))

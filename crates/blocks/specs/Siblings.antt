@@ -1,16 +1,21 @@
 -- The pass for cause 7: four siblings of one colour.
-use mathlib.Core.Path.{_≡_, refl, sym, ap, _∙_}
+use mathlib.Core.Path.{_≡_, refl, sym, ap, ap₂, _∙_, subst}
 use mathlib.Core.Bool.{Bool, true, false, _&&_}
 use mathlib.Core.List.{List, [], _∷_}
-use Prim.Native.Nat.{ℕ, suc, _+_, _%_, _^_, _≤_, _<_}
+use Prim.Native.Nat.{ℕ, suc, _+_, _*_, _/_, _%_, _^_, _≤_, _<_}
+use native.Mathlib.Nat.{div-add-mod'}
 use native.Mathlib.Omega.{arith}
+use lib.Arith.{digits-mod}
+use lib.Count.{trailingZeros}
 use lib.ListN.{length, getD, drop, length-drop}
 use lib.Dec.{eqb, ltb}
-use borrow.Author.Tests.{lt-ltb, le-ltb, eq-eqb, ne-eqb}
-use Rattle.sequences.specs.Cases.{and-stop, and-go-on, and-fail}
-use Rattle.location.specs.Levels.{topLevel}
+use borrow.Author.Tests.{lt-ltb, le-ltb, eq-eqb, ne-eqb, eqb-true}
+use Rattle.sequences.specs.Cases.{and-stop, and-fail, and-both, both-and, same-test}
+use Rattle.sequences.specs.Powers.{pow4-pos}
 use Rattle.quadtree.specs.Blocks.{Block, blocks}
-use Rattle.quadtree.specs.Number.{mergeable, siblings}
+use Rattle.quadtree.specs.Number.{cover, mergeable, siblings}
+use Rattle.quadtree.specs.Siblings.{mergeable-facts}
+use Rattle.quadtree.specs.Covering.{NextBlock, cover-zero}
 use Rattle.blocks.specs.Alignment.{multiple-of-level, no-multiple-of-level}
 use Rattle.blocks.specs.Lists.{EqualLengths, blockOf, length-blocks, rest-after}
 
@@ -18,61 +23,149 @@ use Rattle.blocks.specs.Lists.{EqualLengths, blockOf, length-blocks, res
 unfoldable pub fourAlike : List ℕ → ℕ → Bool
 fourAlike list i = eqb (getD list (i + 1) 0) (getD list i 0) && (eqb (getD list (i + 2) 0) (getD list i 0) && eqb (getD list (i + 3) 0) (getD list i 0))
 
--- Cause 7 for the four blocks from the place i on.
-unfoldable pub mergeableAt : ℕ → List ℕ → List ℕ → List ℕ → ℕ → Bool
-unfolding mergeable blockOf
-mergeableAt n cs ls ks i = mergeable n (blockOf cs ls ks i) (blockOf cs ls ks (i + 1)) (blockOf cs ls ks (i + 2)) (blockOf cs ls ks (i + 3))
+-- The four entries from the place i on as digits to the base 256.
+pub record Digits (list : List ℕ) (i : ℕ) : Type 0 where
+  pub first : getD list i 0 < 256
+  pub second : getD list (i + 1) 0 < 256
+  pub third : getD list (i + 2) 0 < 256
+  pub fourth : getD list (i + 3) 0 < 256
 
-regroup : (a b c d e f g h : Bool) → a && (b && (c && (d && (e && (f && (g && h)))))) ≡ a && (b && ((c && (d && e)) && (f && (g && h))))
-regroup false b c d e f g h = refl
-regroup true false c d e f g h = refl
-regroup true true false d e f g h = refl
-regroup true true true false e f g h = refl
-regroup true true true true e f g h = refl
+-- They are equal exactly where their number is the first times 1 + 256 + 256^2 + 256^3.
+pub four-digits-alike : {list : List ℕ} {i : ℕ} → Digits list i
+    → eqb (getD list i 0 + 256 * getD list (i + 1) 0 + 65536 * getD list (i + 2) 0 + 16777216 * getD list (i + 3) 0) (16843009 * getD list i 0) ≡ fourAlike list i
+unfolding fourAlike
+four-digits-alike {list} {i} digits = same-test (eqb number (16843009 * a)) (eqb b a && (eqb c a && eqb d a)) to from
+  where
+    a : ℕ
+    a = getD list i 0
 
--- Its four parts, as the code asks them.
-pub mergeable-parts : (n : ℕ) (cs ls ks : List ℕ) (i : ℕ)
-    → mergeableAt n cs ls ks i ≡ ltb (getD ls i 0) n && (eqb (getD cs i 0 % 4 ^ suc (getD ls i 0)) 0 && (fourAlike ls i && fourAlike ks i))
-unfolding mergeableAt mergeable blockOf fourAlike
-mergeable-parts n cs ls ks i =
-    regroup (ltb (getD ls i 0) n) (eqb (getD cs i 0 % 4 ^ suc (getD ls i 0)) 0)
-    (eqb (getD ls (i + 1) 0) (getD ls i 0)) (eqb (getD ls (i + 2) 0) (getD ls i 0)) (eqb (getD ls (i + 3) 0) (getD ls i 0))
-    (eqb (getD ks (i + 1) 0) (getD ks i 0)) (eqb (getD ks (i + 2) 0) (getD ks i 0)) (eqb (getD ks (i + 3) 0) (getD ks i 0))
+    b : ℕ
+    b = getD list (i + 1) 0
+
+    c : ℕ
+    c = getD list (i + 2) 0
+
+    d : ℕ
+    d = getD list (i + 3) 0
+
+    number : ℕ
+    number = a + 256 * b + 65536 * c + 16777216 * d
+
+    last-digit : (x y z : ℕ) → x + 256 * y ≡ a + 256 * z → x < 256 → x ≡ a
+    last-digit x y z e h =
+        let low-x : (x + 256 * y) % 256 ≡ x = omega arith in
+        let low-a : (a + 256 * z) % 256 ≡ a = omega (arith, digits .first) in
+        sym low-x ∙ ap (λ (k : ℕ). k % 256) e ∙ low-a
+
+    to : eqb number (16843009 * a) ≡ true → eqb b a && (eqb c a && eqb d a) ≡ true
+    to h =
+        let e : number ≡ 16843009 * a = eqb-true number (16843009 * a) h in
+        let same-b : b ≡ a = last-digit b (c + 256 * d) (257 * a) (omega arith) (digits .second) in
+        let same-c : c ≡ a = last-digit c d a (omega arith) (digits .third) in
+        both-and (eqb b a) (eqb c a && eqb d a) (eq-eqb b a same-b) (both-and (eqb c a) (eqb d a) (eq-eqb c a same-c) (eq-eqb d a (omega arith)))
+
+    from : eqb b a && (eqb c a && eqb d a) ≡ true → eqb number (16843009 * a) ≡ true
+    from h =
+        let one = and-both (eqb b a) (eqb c a && eqb d a) h in
+        let two = and-both (eqb c a) (eqb d a) (one .1) in
+        eq-eqb number (16843009 * a) (omega (arith, eqb-true b a (one .0), eqb-true c a (two .0), eqb-true d a (two .1)))
+
+-- Whether the four blocks from the place i on are siblings: cause 7 but for the colours.
+unfoldable pub fourSiblings : ℕ → List ℕ → List ℕ → ℕ → Bool
+unfolding fourAlike
+fourSiblings n cs ls i = ltb (getD ls i 0) n && (eqb (getD cs i 0 % 4 ^ suc (getD ls i 0)) 0 && fourAlike ls i)
+
+-- How far the pass goes on from the place i: over four siblings, else over one block; 0 where the four have one colour.
+unfoldable pub strideAt : ℕ → List ℕ → List ℕ → List ℕ → ℕ → ℕ
+unfolding fourAlike fourSiblings
+strideAt n cs ls ks i = elim (fourSiblings n cs ls i) [ true ↦ elim (fourAlike ks i) [ true ↦ 0 | false ↦ 4 ] | false ↦ 1 ]
 
 module _ (n : ℕ) (cs ls ks : List ℕ) (i : ℕ) where
+  stride-one : fourSiblings n cs ls i ≡ false → strideAt n cs ls ks i ≡ 1
+  unfolding strideAt
+  stride-one h = rw (h, strideAt)
+
+  stride-none : fourSiblings n cs ls i ≡ true → fourAlike ks i ≡ true → strideAt n cs ls ks i ≡ 0
+  unfolding strideAt
+  stride-none h k = rw (h, strideAt, k)
+
+  stride-four : fourSiblings n cs ls i ≡ true → fourAlike ks i ≡ false → strideAt n cs ls ks i ≡ 4
+  unfolding strideAt
+  stride-four h k = rw (h, strideAt, k)
+
+  -- The answers of the code's tests, in their order.
   large : Bool
   large = ltb (getD ls i 0) n
 
   first-child : Bool
   first-child = eqb (getD cs i 0 % 4 ^ suc (getD ls i 0)) 0
 
-  parts : mergeableAt n cs ls ks i ≡ large && (first-child && (fourAlike ls i && fourAlike ks i))
-  unfolding large first-child
-  parts = mergeable-parts n cs ls ks i
+  parts : fourSiblings n cs ls i ≡ large && (first-child && fourAlike ls i)
+  unfolding fourSiblings large first-child
+  parts = refl
 
-  -- The answers of the code's tests, in their order.
-  pub not-below-n : n ≤ getD ls i 0 → false ≡ mergeableAt n cs ls ks i
+  pub not-below-n : n ≤ getD ls i 0 → 1 ≡ strideAt n cs ls ks i
   unfolding large
-  not-below-n h = sym (parts ∙ and-stop large (first-child && (fourAlike ls i && fourAlike ks i)) (le-ltb (getD ls i 0) n h))
+  not-below-n h = sym (stride-one (parts ∙ and-stop large (first-child && fourAlike ls i) (le-ltb (getD ls i 0) n h)))
 
-  pub not-first-child : getD cs i 0 < 2 ^ 32 → getD ls i 0 < n → topLevel n (getD cs i 0) ≤ getD ls i 0 → false ≡ mergeableAt n cs ls ks i
+  pub not-first-child : getD ls i 0 < 16 → trailingZeros 32 (getD cs i 0) / 2 ≤ getD ls i 0 → 1 ≡ strideAt n cs ls ks i
   unfolding first-child
-  not-first-child small low h =
-      let no-multiple = no-multiple-of-level n (getD cs i 0) (suc (getD ls i 0)) small low (omega arith) in
-      sym (parts ∙ and-fail large (first-child && (fourAlike ls i && fourAlike ks i))
-      (and-stop first-child (fourAlike ls i && fourAlike ks i) (ne-eqb (getD cs i 0 % 4 ^ suc (getD ls i 0)) 0 no-multiple)))
+  not-first-child low h =
+      let no-multiple = no-multiple-of-level (getD cs i 0) (suc (getD ls i 0)) low (omega arith) in
+      sym (stride-one (parts ∙ and-fail large (first-child && fourAlike ls i) (and-stop first-child (fourAlike ls i) (ne-eqb (getD cs i 0 % 4 ^ suc (getD ls i 0)) 0 no-multiple))))
 
-  pub not-one-level : fourAlike ls i ≡ false → false ≡ mergeableAt n cs ls ks i
-  not-one-level h =
-      sym (parts ∙ and-fail large (first-child && (fourAlike ls i && fourAlike ks i))
-      (and-fail first-child (fourAlike ls i && fourAlike ks i) (and-stop (fourAlike ls i) (fourAlike ks i) h)))
+  pub not-one-level : fourAlike ls i ≡ false → 1 ≡ strideAt n cs ls ks i
+  not-one-level h = sym (stride-one (parts ∙ and-fail large (first-child && fourAlike ls i) (and-fail first-child (fourAlike ls i) h)))
 
-  pub by-colour : getD cs i 0 < 2 ^ 32 → getD ls i 0 < n → getD ls i 0 < topLevel n (getD cs i 0) → fourAlike ls i ≡ true → fourAlike ks i ≡ mergeableAt n cs ls ks i
-  unfolding large first-child
-  by-colour small low h alike =
-      sym (parts ∙ and-go-on large (first-child && (fourAlike ls i && fourAlike ks i)) (lt-ltb (getD ls i 0) n low)
-      ∙ and-go-on first-child (fourAlike ls i && fourAlike ks i) (eq-eqb (getD cs i 0 % 4 ^ suc (getD ls i 0)) 0 (multiple-of-level n (getD cs i 0) (suc (getD ls i 0)) small h))
-      ∙ and-go-on (fourAlike ls i) (fourAlike ks i) alike)
+  module _ (low : getD ls i 0 < n) (h : getD ls i 0 < trailingZeros 32 (getD cs i 0) / 2) (alike : fourAlike ls i ≡ true) where
+    all-parts : fourSiblings n cs ls i ≡ true
+    unfolding large first-child
+    all-parts =
+        parts ∙ both-and large (first-child && fourAlike ls i) (lt-ltb (getD ls i 0) n low)
+        (both-and first-child (fourAlike ls i) (eq-eqb (getD cs i 0 % 4 ^ suc (getD ls i 0)) 0 (multiple-of-level (getD cs i 0) (suc (getD ls i 0)) h)) alike)
+
+    pub one-colour : fourAlike ks i ≡ true → 0 ≡ strideAt n cs ls ks i
+    one-colour k = sym (stride-none all-parts k)
+
+    pub more-colours : fourAlike ks i ≡ false → 4 ≡ strideAt n cs ls ks i
+    more-colours k = sym (stride-four all-parts k)
+
+-- What four siblings are.
+record SiblingsFacts (cs ls : List ℕ) (i : ℕ) : Type 0 where
+  multiple : getD cs i 0 % 4 ^ suc (getD ls i 0) ≡ 0
+  level-b : getD ls (i + 1) 0 ≡ getD ls i 0
+  level-c : getD ls (i + 2) 0 ≡ getD ls i 0
+  level-d : getD ls (i + 3) 0 ≡ getD ls i 0
+
+siblings-facts : (n : ℕ) (cs ls : List ℕ) (i : ℕ) → fourSiblings n cs ls i ≡ true → SiblingsFacts cs ls i
+unfolding fourSiblings fourAlike
+siblings-facts n cs ls i h =
+    let h0 = and-both (ltb (getD ls i 0) n) (eqb (getD cs i 0 % 4 ^ suc (getD ls i 0)) 0 && fourAlike ls i) h in
+    let h1 = and-both (eqb (getD cs i 0 % 4 ^ suc (getD ls i 0)) 0) (fourAlike ls i) (h0 .1) in
+    let h2 = and-both (eqb (getD ls (i + 1) 0) (getD ls i 0)) (eqb (getD ls (i + 2) 0) (getD ls i 0) && eqb (getD ls (i + 3) 0) (getD ls i 0)) (h1 .1) in
+    let h3 = and-both (eqb (getD ls (i + 2) 0) (getD ls i 0)) (eqb (getD ls (i + 3) 0) (getD ls i 0)) (h2 .1) in
+    record {
+      multiple = eqb-true (getD cs i 0 % 4 ^ suc (getD ls i 0)) 0 (h1 .0);
+      level-b = eqb-true (getD ls (i + 1) 0) (getD ls i 0) (h2 .0);
+      level-c = eqb-true (getD ls (i + 2) 0) (getD ls i 0) (h3 .0);
+      level-d = eqb-true (getD ls (i + 3) 0) (getD ls i 0) (h3 .1);
+    }
+
+regroup : (a b c d e f g h : Bool) → a && (b && (c && (d && (e && (f && (g && h)))))) ≡ (a && (b && (c && (d && e)))) && (f && (g && h))
+regroup false b c d e f g h = refl
+regroup true false c d e f g h = refl
+regroup true true false d e f g h = refl
+regroup true true true false e f g h = refl
+regroup true true true true e f g h = refl
+
+-- Cause 7 at the place i, in the parts that the code asks.
+mergeable-parts : (n : ℕ) (cs ls ks : List ℕ) (i : ℕ)
+    → mergeable n (blockOf cs ls ks i) (blockOf cs ls ks (i + 1)) (blockOf cs ls ks (i + 2)) (blockOf cs ls ks (i + 3)) ≡ fourSiblings n cs ls i && fourAlike ks i
+unfolding mergeable blockOf fourAlike fourSiblings
+mergeable-parts n cs ls ks i =
+    regroup (ltb (getD ls i 0) n) (eqb (getD cs i 0 % 4 ^ suc (getD ls i 0)) 0)
+    (eqb (getD ls (i + 1) 0) (getD ls i 0)) (eqb (getD ls (i + 2) 0) (getD ls i 0)) (eqb (getD ls (i + 3) 0) (getD ls i 0))
+    (eqb (getD ks (i + 1) 0) (getD ks i 0)) (eqb (getD ks (i + 2) 0) (getD ks i 0)) (eqb (getD ks (i + 3) 0) (getD ks i 0))
 
 siblings-first : (n : ℕ) (a b c d : Block) (bs : List Block) → mergeable n a b c d ≡ true → siblings n (a ∷ b ∷ c ∷ d ∷ bs) ≡ true
 unfolding siblings
@@ -90,6 +183,57 @@ siblings-few n (a ∷ b ∷ []) h = refl
 siblings-few n (a ∷ b ∷ c ∷ []) h = refl
 siblings-few n (a ∷ b ∷ c ∷ d ∷ bs) h = absurd (omega arith)
 
+-- A block that is no first child begins no four siblings.
+siblings-after-other : (n : ℕ) (a : Block) (bs : List Block) → (a .code % 4 ^ suc (a .level) ≡ 0 → ⊥) → siblings n (a ∷ bs) ≡ siblings n bs
+unfolding siblings
+siblings-after-other n a [] h = refl
+siblings-after-other n a (b ∷ []) h = refl
+siblings-after-other n a (b ∷ c ∷ []) h = refl
+siblings-after-other n a (b ∷ c ∷ d ∷ bs) h = siblings-later n a b c d bs unlike
+  where
+    unlike : mergeable n a b c d ≡ false
+    unlike = by (mergeable n a b c d) refl
+      where
+        by : (t : Bool) → mergeable n a b c d ≡ t → t ≡ false
+        by true e = absurd (h (mergeable-facts n a b c d e .multiple))
+        by false e = refl
+
+-- Past a multiple of 4^(l + 1) and before the next there is none.
+between-multiples : (c d l : ℕ) → c % 4 ^ suc l ≡ 0 → 0 < d → d < 4 ^ suc l → (c + d) % 4 ^ suc l ≡ 0 → ⊥
+between-multiples c d l m p h e =
+    let w : ℕ = 4 ^ suc l in
+    let whole : c ≡ c / w * w = omega (arith, div-add-mod' c w) in
+    let last : (c / w * w + d) % w ≡ d = digits-mod (c / w) h in
+    omega (arith, ap (λ (z : ℕ). (z + d) % w) whole)
+
+-- Four siblings of a covering list, `sum` pixels before them.
+module _ (n sum : ℕ) (a b c d : Block) (bs : List Block) (most : sum ≤ 4 ^ n) (covered : cover n sum (a ∷ b ∷ c ∷ d ∷ bs) ≡ 0)
+    (multiple : a .code % 4 ^ suc (a .level) ≡ 0) (level-b : b .level ≡ a .level) (level-c : c .level ≡ a .level) (level-d : d .level ≡ a .level) where
+  at-a : NextBlock n sum a (b ∷ c ∷ d ∷ bs)
+  at-a = cover-zero n sum a (b ∷ c ∷ d ∷ bs) most covered
+
+  at-b : NextBlock n (sum + 4 ^ a .level) b (c ∷ d ∷ bs)
+  at-b = cover-zero n (sum + 4 ^ a .level) b (c ∷ d ∷ bs) (at-a .fits) (at-a .rest)
+
+  at-c : NextBlock n (sum + 4 ^ a .level + 4 ^ b .level) c (d ∷ bs)
+  at-c = cover-zero n (sum + 4 ^ a .level + 4 ^ b .level) c (d ∷ bs) (at-b .fits) (at-b .rest)
+
+  at-d : NextBlock n (sum + 4 ^ a .level + 4 ^ b .level + 4 ^ c .level) d bs
+  at-d = cover-zero n (sum + 4 ^ a .level + 4 ^ b .level + 4 ^ c .level) d bs (at-c .fits) (at-c .rest)
+
+  no-first : (x : Block) (e : ℕ) → x .level ≡ a .level → x .code ≡ a .code + e → 0 < e → e < 4 ^ suc (a .level) → x .code % 4 ^ suc (x .level) ≡ 0 → ⊥
+  no-first x e same here p h k = between-multiples (a .code) e (a .level) multiple p h (sym (ap₂ (λ (z l : ℕ). z % 4 ^ suc l) here same) ∙ k)
+
+  -- Those after the first begin no four siblings.
+  after-four : mergeable n a b c d ≡ false → siblings n (a ∷ b ∷ c ∷ d ∷ bs) ≡ siblings n bs
+  after-four unlike =
+      let size-b = ap (λ (l : ℕ). 4 ^ l) level-b in
+      let size-c = ap (λ (l : ℕ). 4 ^ l) level-c in
+      siblings-later n a b c d bs unlike
+      ∙ siblings-after-other n b (c ∷ d ∷ bs) (no-first b (1 * 4 ^ a .level) level-b (omega (arith, at-a .here, at-b .here)) (omega (arith, pow4-pos (a .level))) (omega (arith, pow4-pos (a .level))))
+      ∙ siblings-after-other n c (d ∷ bs) (no-first c (2 * 4 ^ a .level) level-c (omega (arith, at-a .here, at-c .here)) (omega (arith, pow4-pos (a .level))) (omega (arith, pow4-pos (a .level))))
+      ∙ siblings-after-other n d bs (no-first d (3 * 4 ^ a .level) level-d (omega (arith, at-a .here, at-d .here)) (omega (arith, pow4-pos (a .level))) (omega (arith, pow4-pos (a .level))))
+
 -- The three blocks after the place i, one by one.
 three-after : (cs ls ks : List ℕ) → EqualLengths cs ls ks → (i : ℕ) → i + 3 < length cs
     → drop (i + 1) (blocks cs ls ks) ≡ blockOf cs ls ks (i + 1) ∷ blockOf cs ls ks (i + 2) ∷ blockOf cs ls ks (i + 3) ∷ drop (i + 4) (blocks cs ls ks)
@@ -100,37 +244,101 @@ three-after cs ls ks long i h =
     next : (j k : ℕ) → j < length cs → j + 1 ≡ k → drop j (blocks cs ls ks) ≡ blockOf cs ls ks j ∷ drop k (blocks cs ls ks)
     next j k l e = rest-after cs ls ks long j l ∙ ap (λ (m : ℕ). blockOf cs ls ks j ∷ drop m (blocks cs ls ks)) e
 
--- What holds at the head of the pass: cause 7 stands in the blocks from i on if anywhere.
+-- What holds at the head of the pass: cause 7 stands in the blocks from i on if anywhere, and they cover what is left.
 pub record Searched (n : ℕ) (codes levels colours : List ℕ) (i : ℕ) : Type 0 where
   pub within : i ≤ length codes
   pub same : siblings n (drop i (blocks codes levels colours)) ≡ siblings n (blocks codes levels colours)
+  pub sum : ℕ
+  pub most : sum ≤ 4 ^ n
+  pub rest : cover n sum (drop i (blocks codes levels colours)) ≡ 0
 
-module _ {n : ℕ} {codes levels colours : List ℕ} where
-  pub searched-none : Searched n codes levels colours 0
-  searched-none = record { within = omega arith; same = refl }
+module _ {n : ℕ} {codes levels colours : List ℕ} (long : EqualLengths codes levels colours) where
+  pub searched-none : cover n 0 (blocks codes levels colours) ≡ 0 → Searched n codes levels colours 0
+  searched-none covered = record { within = omega arith; same = refl; sum = 0; most = omega arith; rest = covered }
 
-  module _ {i : ℕ} (long : EqualLengths codes levels colours) (s : Searched n codes levels colours i) where
+  module _ {i : ℕ} (s : Searched n codes levels colours i) where
     module _ (h : i + 3 < length codes) where
-      here : siblings n (blocks codes levels colours)
-          ≡ siblings n (blockOf codes levels colours i ∷ blockOf codes levels colours (i + 1) ∷ blockOf codes levels colours (i + 2) ∷ blockOf codes levels colours (i + 3) ∷ drop (i + 4) (blocks codes levels colours))
-      here =
-          sym (s .same)
-          ∙ ap (siblings n) (rest-after codes levels colours long i (omega arith) ∙ ap (λ (t : List Block). blockOf codes levels colours i ∷ t) (three-after codes levels colours long i h))
+      a : Block
+      a = blockOf codes levels colours i
 
-      -- Found at this place, it is found.
-      pub searched-found : mergeableAt n codes levels colours i ≡ true → true ≡ siblings n (blocks codes levels colours)
-      unfolding mergeableAt
-      searched-found m =
-          sym (here ∙ siblings-first n (blockOf codes levels colours i) (blockOf codes levels colours (i + 1)) (blockOf codes levels colours (i + 2)) (blockOf codes levels colours (i + 3)) (drop (i + 4) (blocks codes levels colours)) m)
+      b : Block
+      b = blockOf codes levels colours (i + 1)
 
-      pub searched-more : mergeableAt n codes levels colours i ≡ false → Searched n codes levels colours (i + 1)
-      unfolding mergeableAt
-      searched-more m = record {
-        within = omega arith;
-        same =
-            ap (siblings n) (three-after codes levels colours long i h)
-            ∙ sym (here ∙ siblings-later n (blockOf codes levels colours i) (blockOf codes levels colours (i + 1)) (blockOf codes levels colours (i + 2)) (blockOf codes levels colours (i + 3)) (drop (i + 4) (blocks codes levels colours)) m);
-      }
+      c : Block
+      c = blockOf codes levels colours (i + 2)
+
+      d : Block
+      d = blockOf codes levels colours (i + 3)
+
+      left : List Block
+      left = drop (i + 4) (blocks codes levels colours)
+
+      three : drop (i + 1) (blocks codes levels colours) ≡ b ∷ c ∷ d ∷ left
+      unfolding b c d left
+      three = three-after codes levels colours long i h
+
+      here : drop i (blocks codes levels colours) ≡ a ∷ b ∷ c ∷ d ∷ left
+      unfolding a
+      here = rest-after codes levels colours long i (omega arith) ∙ ap (λ (t : List Block). blockOf codes levels colours i ∷ t) three
+
+      covered : cover n (s .sum) (a ∷ b ∷ c ∷ d ∷ left) ≡ 0
+      covered = sym (ap (cover n (s .sum)) here) ∙ s .rest
+
+      whole : siblings n (a ∷ b ∷ c ∷ d ∷ left) ≡ siblings n (blocks codes levels colours)
+      whole = sym (ap (siblings n) here) ∙ s .same
+
+      fits : mergeable n a b c d ≡ fourSiblings n codes levels i && fourAlike colours i
+      unfolding a b c d
+      fits = mergeable-parts n codes levels colours i
+
+      over-one : mergeable n a b c d ≡ false → Searched n codes levels colours (i + 1)
+      over-one unlike =
+          let next = cover-zero n (s .sum) a (b ∷ c ∷ d ∷ left) (s .most) covered in
+          record {
+            within = omega arith;
+            same = ap (siblings n) three ∙ sym (siblings-later n a b c d left unlike) ∙ whole;
+            sum = s .sum + 4 ^ a .level;
+            most = next .fits;
+            rest = ap (cover n (s .sum + 4 ^ a .level)) three ∙ next .rest;
+          }
+
+      over-four : fourSiblings n codes levels i ≡ true → fourAlike colours i ≡ false → Searched n codes levels colours (i + 4)
+      unfolding a b c d left blockOf
+      over-four siblings-here unlike =
+          let f = siblings-facts n codes levels i siblings-here in
+          let next = at-d n (s .sum) a b c d left (s .most) covered (f .multiple) (f .level-b) (f .level-c) (f .level-d) in
+          record {
+            within = omega arith;
+            same =
+                sym (after-four n (s .sum) a b c d left (s .most) covered (f .multiple) (f .level-b) (f .level-c) (f .level-d)
+                (fits ∙ and-fail (fourSiblings n codes levels i) (fourAlike colours i) unlike))
+                ∙ whole;
+            sum = s .sum + 4 ^ a .level + 4 ^ b .level + 4 ^ c .level + 4 ^ d .level;
+            most = next .fits;
+            rest = next .rest;
+          }
+
+      -- A stride of 0 has found cause 7; any other leads on.
+      module _ {r : ℕ} (e : r ≡ strideAt n codes levels colours i) where
+        pub searched-found : r ≡ 0 → true ≡ siblings n (blocks codes levels colours)
+        unfolding strideAt
+        searched-found z = by (fourSiblings n codes levels i) refl (fourAlike colours i) refl
+          where
+            by : (t : Bool) → fourSiblings n codes levels i ≡ t → (u : Bool) → fourAlike colours i ≡ u → true ≡ siblings n (blocks codes levels colours)
+            by true p true q =
+                sym (sym whole ∙ siblings-first n a b c d left (fits ∙ both-and (fourSiblings n codes levels i) (fourAlike colours i) p q))
+            by true p false q = absurd (omega (arith, stride-four n codes levels colours i p q))
+            by false p u q = absurd (omega (arith, stride-one n codes levels colours i p))
+
+        pub searched-more : (r ≡ 0 → ⊥) → Searched n codes levels colours (i + r)
+        searched-more some = by (fourSiblings n codes levels i) refl (fourAlike colours i) refl
+          where
+            by : (t : Bool) → fourSiblings n codes levels i ≡ t → (u : Bool) → fourAlike colours i ≡ u → Searched n codes levels colours (i + r)
+            by true p true q = absurd (some (e ∙ stride-none n codes levels colours i p q))
+            by true p false q = subst (λ (k : ℕ). Searched n codes levels colours (i + k)) (sym (e ∙ stride-four n codes levels colours i p q)) (over-four p q)
+            by false p u q =
+                subst (λ (k : ℕ). Searched n codes levels colours (i + k)) (sym (e ∙ stride-one n codes levels colours i p))
+                (over-one (fits ∙ and-stop (fourSiblings n codes levels i) (fourAlike colours i) p))
 
     pub searched-all : length codes ≤ i + 3 → false ≡ siblings n (blocks codes levels colours)
     searched-all h =

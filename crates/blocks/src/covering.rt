@@ -7,11 +7,11 @@ ghost use Rattle.quadtree.specs.Blocks.{blocks};
 ghost use Rattle.quadtree.specs.Number.{cover, siblings};
 ghost use Rattle.blocks.specs.Lists.{EqualLengths};
 ghost use Rattle.blocks.specs.Covering.{faultOf};
-ghost use Rattle.blocks.specs.Siblings.{fourAlike, mergeableAt};
+ghost use Rattle.blocks.specs.Siblings.{fourAlike, strideAt};
 
 // The cause among 3, 4 and 5 that a block meets where `sum` pixels are covered before it; 0 for none.
 fn block_fault(n: u32, whole: usize, sum: usize, code: u32, level: u32) -> u32
-    requires { ⌜ whole ≡ 4 ^ n ⌝ }
+    requires { ⌜ (n ≤ 8) × (whole ≡ 4 ^ n) ⌝ }
     ensures { λ r. ⌜ r ≡ faultOf n sum code level ⌝ }
 {
     if n < level {
@@ -23,7 +23,7 @@ fn block_fault(n: u32, whole: usize, sum: usize, code: u32, level: u32) -> u32
     if sum == whole {
         return 4;
     }
-    if location::top_level(n, code) < level {
+    if u32::trailing_zeros(code) / 2 < level {
         return 5;
     }
     0
@@ -52,50 +52,51 @@ pub(crate) fn cover(n: u32, codes: &[u32], levels: &[u8]) -> u32
     0
 }
 
-// Whether the four entries from i on are equal.
+// Whether the four entries from i on are equal: asked of them as the digits of one number, one test instead of three.
 fn four_alike(list: &[u8], i: usize) -> bool
     requires { ⌜ i + 3 < length (now list) ⌝ }
     ensures { λ r. ⌜ r ≡ fourAlike (now (list .entry)) i ⌝ }
 {
-    let first = list[i];
-    if list[i + 1] != first {
-        return false;
-    }
-    if list[i + 2] != first {
-        return false;
-    }
-    list[i + 3] == first
+    let first = list[i] as u32;
+    let second = list[i + 1] as u32;
+    let third = list[i + 2] as u32;
+    let fourth = list[i + 3] as u32;
+    first + 256 * second + 65536 * third + 16777216 * fourth == 16843009 * first
 }
 
-// Whether the four blocks from i on could be one: cause 7 at one place.
-fn mergeable(n: u32, codes: &[u32], levels: &[u8], colours: &[u8], i: usize) -> bool
-    requires { ⌜ EqualLengths (now codes) (now levels) (now colours) × (i + 3 < length (now codes)) ⌝ }
-    ensures { λ r. ⌜ r ≡ mergeableAt n (now (codes .entry)) (now (levels .entry)) (now (colours .entry)) i ⌝ }
+// How many blocks from i on begin no four siblings of one colour, as far as one look tells; 0 where such four begin at i.
+fn stride(n: u32, codes: &[u32], levels: &[u8], colours: &[u8], i: usize) -> usize
+    requires { ⌜ (n ≤ 8) × EqualLengths (now codes) (now levels) (now colours) × (i + 3 < length (now codes)) ⌝ }
+    ensures { λ r. ⌜ r ≡ strideAt n (now (codes .entry)) (now (levels .entry)) (now (colours .entry)) i ⌝ }
 {
     let level = levels[i] as u32;
     if n <= level {
-        return false;
+        return 1;
     }
-    if location::top_level(n, codes[i]) <= level {
-        return false;
+    if u32::trailing_zeros(codes[i]) / 2 <= level {
+        return 1;
     }
     if !four_alike(levels, i) {
-        return false;
+        return 1;
     }
-    four_alike(colours, i)
+    if four_alike(colours, i) {
+        return 0;
+    }
+    4
 }
 
-// Cause 7 anywhere in the list.
+// Cause 7 anywhere in a list that covers its image.
 pub(crate) fn siblings(n: u32, codes: &[u32], levels: &[u8], colours: &[u8]) -> bool
-    requires { ⌜ EqualLengths (now codes) (now levels) (now colours) ⌝ }
+    requires { ⌜ (n ≤ 8) × EqualLengths (now codes) (now levels) (now colours) × (cover n 0 (blocks (now codes) (now levels) (now colours)) ≡ 0) ⌝ }
     ensures { λ r. ⌜ r ≡ siblings n (blocks (now (codes .entry)) (now (levels .entry)) (now (colours .entry))) ⌝ }
 {
     let mut i: usize = 0;
     while i + 3 < codes.len() {
-        if mergeable(n, codes, levels, colours, i) {
+        let clear = stride(n, codes, levels, colours, i);
+        if clear == 0 {
             return true;
         }
-        i += 1;
+        i += clear;
     }
     false
 }

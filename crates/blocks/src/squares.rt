@@ -1,10 +1,11 @@
-// Squares of a raster: where a code's pixel lies, and whether a square has one colour.
+// Squares of a raster: where a code's pixel lies, whether a square has one colour, four pixels stored at once.
 ghost use mathlib.Core.Path.{_≡_};
 ghost use mathlib.Core.Bool.{_&&_};
 ghost use Prim.Native.Nat.{_+_, _*_, _^_, _≤_, _<_};
 ghost use lib.ListN.{length};
 ghost use Rattle.quadtree.specs.Quadtree.{alike};
 ghost use Rattle.quadtree.specs.Raster.{place};
+ghost use Rattle.blocks.specs.Filling.{fourStored};
 ghost use Rattle.blocks.specs.Squares.{rowsAlike, RowsFit, OthersFit};
 
 // The place of the pixel with the code c in a raster of side 2^n.
@@ -62,4 +63,15 @@ pub(crate) fn others_alike(raster: &[u8], w: usize, at: usize, s: usize, v: u8) 
         return false;
     }
     square_alike(raster, w, at + s * w + s, s, v)
+}
+
+// Gives the square of side 2 at the place `at`, in rows of w, its four colours. In rows of 2 these are successive entries.
+pub(crate) fn store_four(raster: &mut [u8], w: usize, at: usize, nw: u8, ne: u8, sw: u8, se: u8)
+    requires { ⌜ (w ≤ 256) × (at + w + 1 < length (now raster)) ⌝ }
+    ensures { λ _. ⌜ now (raster .exit) ≡ fourStored w at nw ne sw se (now (raster .entry)) ⌝ }
+{
+    raster[at] = nw;
+    raster[at + 1] = ne;
+    raster[at + w] = sw;
+    raster[at + w + 1] = se;
 }

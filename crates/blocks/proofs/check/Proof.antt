@@ -1,4 +1,5 @@
 -- The tests stand in the order of causes 1 and 2; the passes over the blocks give 3 to 6, then 7.
+use mathlib.Core.Path.{sym, _∙_}
 use Rattle.quadtree.specs.Number.{cover}
 use Rattle.blocks.specs.Checking.{number-large, number-levels-unlike, number-colours-unlike, number-cover, number-siblings, number-accepted}
 use Rattle.blocks.proofs.check.Statement.{statement}
@@ -20,7 +21,11 @@ returns-4 : tie.Need-returns-4
 returns-4 c = number-cover _ _ _ _ (c .before .before .before .before .if1 .left) (c .before .before .before .if2 .left) (c .before .before .if3 .left) (c .before .cover .ensures) (c .if4 .taken)
 
 siblings-requires : tie.Need-siblings-requires
-siblings-requires c κs = record { levels-too = c .before .before .before .if2 .left; colours-too = c .before .before .if3 .left }
+siblings-requires c κs = (
+  c .before .before .before .before .if1 .left,
+  record { levels-too = c .before .before .before .if2 .left; colours-too = c .before .before .if3 .left },
+  sym (c .before .cover .ensures _ (sym (c .before .before .if3 .left))) ∙ c .if4 .left,
+)
 
 returns-5 : tie.Need-returns-5
 returns-5 c = number-siblings _ _ _ _ (c .before .before .before .before .before .before .if1 .left) (c .before .before .before .before .before .if2 .left) (c .before .before .before .before .if3 .left) (c .before .before .before .cover .ensures) (c .before .before .if4 .left) (c .before .siblings .ensures) (c .if5 .taken)

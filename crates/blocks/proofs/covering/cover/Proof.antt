@@ -35,7 +35,7 @@ shared-slice-read-block-fault : tie.Need-shared-slice-read-block-fault Inv-loop 
 shared-slice-read-block-fault c = search needs
 
 block-fault-requires : tie.Need-block-fault-requires Inv-loop μ-loop
-block-fault-requires c κs = c .before .before .before .before .pixels .ensures ∙ pixels-are-power (c .before .before .before .before .before .before .before .args .n) (omega (arith, c .before .before .before .before .before .before .before .pre .0))
+block-fault-requires c κs = (c .before .before .before .before .before .before .before .pre .0, c .before .before .before .before .pixels .ensures ∙ pixels-are-power (c .before .before .before .before .before .before .before .args .n) (omega (arith, c .before .before .before .before .before .before .before .pre .0)))
 
 returns : tie.Need-returns Inv-loop μ-loop
 returns c = passed-fault (c .before .before .before .before .before .before .before .before .before .pre .1) (c .before .before .before .before .before .loop .inv) (c .before .before .before .before .loop-test .taken) (c .before .block-fault .ensures) (c .if1 .taken)

@@ -1,54 +1,94 @@
--- Each entry is held against the first.
-use Rattle.blocks.specs.Siblings.{fourAlike}
-use borrow.Author.Tests.{eq-eqb, ne-eqb}
+-- The entries are digits to the base 256, so their number tells whether they are equal.
 use borrow.Author.Needs.{needs}
+use Prim.Native.Nat.{_+_}
+use native.Mathlib.Omega.{arith}
+use Rattle.blocks.specs.Siblings.{Digits, four-digits-alike}
 use Rattle.blocks.proofs.covering.four_alike.Statement.{statement}
 use Rattle.blocks.proofs.covering.four_alike.Tie as tie
+
+digits : (c : tie.After-shared-slice-known4) → Digits (c .before .before .before .before .args .list .now) (c .before .before .before .before .args .i)
+digits c =
+    let i = c .before .before .before .before .args .i in
+    let byte = c .shared-slice-known4 .given in
+    record { first = omega (arith, byte i); second = omega (arith, byte (i + 1)); third = omega (arith, byte (i + 2)); fourth = omega (arith, byte (i + 3)) }
 
 shared-slice-read-first : tie.Need-shared-slice-read-first
 shared-slice-read-first c = search needs
 
-add-if1 : tie.Need-add-if1
-add-if1 c = search needs
+cast-first : tie.Need-cast-first
+cast-first c = omega (arith, c .shared-slice-known .given (c .before .args .i))
 
-shared-slice-read-if1 : tie.Need-shared-slice-read-if1
-shared-slice-read-if1 c = search needs
+add-second : tie.Need-add-second
+add-second c = search needs
 
-returns : tie.Need-returns
-unfolding fourAlike
-returns c = rw (ne-eqb _ _ (c .if1 .taken))
+shared-slice-read-second : tie.Need-shared-slice-read-second
+shared-slice-read-second c = search needs
 
-add-if2 : tie.Need-add-if2
-add-if2 c = search needs
+cast-second : tie.Need-cast-second
+cast-second c = omega (arith, c .shared-slice-known2 .given (c .before .before .args .i + 1))
 
-shared-slice-read-if2 : tie.Need-shared-slice-read-if2
-shared-slice-read-if2 c = search needs
+add-third : tie.Need-add-third
+add-third c = search needs
 
-returns-2 : tie.Need-returns-2
-unfolding fourAlike
-returns-2 c = rw (eq-eqb _ _ (c .before .before .if1 .left), ne-eqb _ _ (c .if2 .taken))
+shared-slice-read-third : tie.Need-shared-slice-read-third
+shared-slice-read-third c = search needs
+
+cast-third : tie.Need-cast-third
+cast-third c = omega (arith, c .shared-slice-known3 .given (c .before .before .before .args .i + 2))
+
+add-fourth : tie.Need-add-fourth
+add-fourth c = search needs
+
+shared-slice-read-fourth : tie.Need-shared-slice-read-fourth
+shared-slice-read-fourth c = search needs
+
+cast-fourth : tie.Need-cast-fourth
+cast-fourth c = omega (arith, c .shared-slice-known4 .given (c .before .before .before .before .args .i + 3))
+
+mul-result : tie.Need-mul-result
+mul-result c = omega (arith, digits c)
 
 add-result : tie.Need-add-result
-add-result c = search needs
+add-result c = omega (arith, digits c)
 
-shared-slice-read-result : tie.Need-shared-slice-read-result
-shared-slice-read-result c = search needs
+mul-result-2 : tie.Need-mul-result-2
+mul-result-2 c = omega (arith, digits c)
 
-returns-3 : tie.Need-returns-3
-unfolding fourAlike
-returns-3 c = rw (eq-eqb _ _ (c .before .before .before .if1 .left), eq-eqb _ _ (c .before .if2 .left))
+add-result-2 : tie.Need-add-result-2
+add-result-2 c = omega (arith, digits c)
+
+mul-result-3 : tie.Need-mul-result-3
+mul-result-3 c = omega (arith, digits c)
+
+add-result-3 : tie.Need-add-result-3
+add-result-3 c = omega (arith, digits c)
+
+mul-result-4 : tie.Need-mul-result-4
+mul-result-4 c = omega (arith, digits c)
+
+returns : tie.Need-returns
+returns c = four-digits-alike (digits c)
 
 pub four-alike-spec : {M : Type 1} → statement M
 four-alike-spec =
     tie.close
     (tie.spec
     shared-slice-read-first
-    add-if1
-    shared-slice-read-if1
-    returns
-    add-if2
-    shared-slice-read-if2
-    returns-2
+    cast-first
+    add-second
+    shared-slice-read-second
+    cast-second
+    add-third
+    shared-slice-read-third
+    cast-third
+    add-fourth
+    shared-slice-read-fourth
+    cast-fourth
+    mul-result
     add-result
-    shared-slice-read-result
-    returns-3)
+    mul-result-2
+    add-result-2
+    mul-result-3
+    add-result-3
+    mul-result-4
+    returns)
