@@ -7,37 +7,27 @@ ghost use lib.ListN.{length, getD};
 ghost use Rattle.unions.specs.Roots.{root};
 ghost use Rattle.unions.specs.Joining.{Forest, joins};
 ghost use Rattle.components.specs.BlockPairs.{spanPairs, unlessFirst};
-ghost use Rattle.components.specs.Spans.{joinIfAlike, Neighbours};
+ghost use Rattle.components.specs.Spans.{joinIfAlike};
 ghost use Rattle.components.specs.Stretches.{fill};
 ghost use Rattle.components.specs.Walk.{Walking};
 ghost use Rattle.regions.specs.Sides.{Joinable, Side, Sides, SidesJoined};
 ghost use Rattle.regions.specs.Walk.{Walkable, Storable};
 
-// Joins the blocks b and k if their colours are equal.
-fn join_alike(colours: &[u8], parents: &mut [u32], b: u32, k: u32)
-    requires { ⌜ Joinable (now colours) (now parents) b k ⌝ }
+// Joins the blocks b and k if their colours are equal. Where b is `last` that is done already.
+fn join_alike(colours: &[u8], parents: &mut [u32], last: u32, b: u32, k: u32)
+    requires { ⌜ Joinable (now colours) (now parents) last b k ⌝ }
     ensures { λ _. ⌜ Forest (now (parents .entry)) (joinIfAlike (now (colours .entry)) (root (now (parents .entry))) b k) (now (parents .exit)) ⌝ }
 {
+    if b == last {
+        return;
+    }
     if colours[b as usize] == colours[k as usize] {
         join(parents, b, k);
     }
 }
 
-// Joins the block k with each block of its colour that the s entries from `from` on name.
-fn join_span(entries: &[u32], from: usize, s: usize, colours: &[u8], k: u32, parents: &mut [u32])
-    requires { ⌜ Neighbours (now entries) from s (now colours) k (now parents) ⌝ }
-    ensures { λ _. ⌜ Forest (now (parents .entry)) (joins (root (now (parents .entry))) (spanPairs (λ x. getD (now (entries .entry)) x 0) (now (colours .entry)) k from s)) (now (parents .exit)) ⌝ }
-{
-    let end = from + s;
-    let mut x = from;
-    while x < end {
-        let b = entries[x];
-        join_alike(colours, parents, b, k);
-        x += 1;
-    }
-}
-
-// The same, or nothing where z is 0: there the block begins at the image's edge and has no neighbours on this side.
+// Joins the block k with each block of its colour that the s entries from `from` on name; with none where z is 0: there the block
+// begins at the image's edge and has no neighbours on this side. A neighbour that fills several entries is joined once.
 fn join_side(
     z: usize,
     entries: &[u32],
@@ -53,10 +43,30 @@ fn join_side(
     if z == 0 {
         return;
     }
-    join_span(entries, from, s, colours, k, parents);
+    let end = from + s;
+    let mut last = k;
+    let mut x = from;
+    while x < end {
+        let b = entries[x];
+        join_alike(colours, parents, last, b, k);
+        last = b;
+        x += 1;
+    }
+}
+
+// The same for a single pixel, whose one neighbour the entry `at` names: no loop.
+fn join_one(z: usize, entries: &[u32], at: usize, colours: &[u8], k: u32, parents: &mut [u32])
+    requires { ⌜ Side z (now entries) at 1 (now colours) k (now parents) ⌝ }
+    ensures { λ _. ⌜ Forest (now (parents .entry)) (joins (root (now (parents .entry))) (unlessFirst z (spanPairs (λ x. getD (now (entries .entry)) x 0) (now (colours .entry)) k at 1))) (now (parents .exit)) ⌝ }
+{
+    if z != 0 {
+        let b = entries[at];
+        join_alike(colours, parents, k, b, k);
+    }
 }
 
 // Joins the block k, of side s at (x, y) in an image of side w, with all its neighbours of its colour in the north and in the west.
+// In a busy picture most blocks are single pixels.
 fn join_sides(
     entries: &[u32],
     w: usize,
@@ -70,15 +80,24 @@ fn join_sides(
     requires { ⌜ Sides (now entries) w x y s (now colours) k (now parents) ⌝ }
     ensures { λ _. ⌜ SidesJoined (now (entries .entry)) w x y s (now (colours .entry)) k (now (parents .entry)) (now (parents .exit)) ⌝ }
 {
+    if s == 1 {
+        join_one(y, entries, x, colours, k, parents);
+        join_one(x, entries, w + y, colours, k, parents);
+        return;
+    }
     join_side(y, entries, x, s, colours, k, parents);
     join_side(x, entries, w + y, s, colours, k, parents);
 }
 
-// Stores v in the s entries from `from` on.
+// Stores v in the s entries from `from` on; in a single one without a loop.
 pub(crate) fn fill(work: &mut [u32], from: usize, s: usize, v: u32)
     requires { ⌜ from + s ≤ length (now work) ⌝ }
     ensures { λ _. ⌜ now (work .exit) ≡ fill (now (work .entry)) from s v ⌝ }
 {
+    if s == 1 {
+        work[from] = v;
+        return;
+    }
     let last = from + s;
     let mut i = from;
     while i < last {

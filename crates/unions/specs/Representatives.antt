@@ -67,7 +67,7 @@ module _ (r : ℕ → ℕ) (e : Pair) where
       pick (yes h) = inl (omega arith, omega arith)
       pick (no n) = inr (omega arith, omega arith)
 
-  join-pair : joinAt r e (e .one) ≡ joinAt r e (e .two)
+  pub join-pair : joinAt r e (e .one) ≡ joinAt r e (e .two)
   unfolding joinAt low high InOrder
   join-pair = pick in-order
     where
