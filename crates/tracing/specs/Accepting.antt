@@ -1,18 +1,21 @@
--- An accepted tracing: the numbering of the regions, then the listing of their outlines, give what the tracing promises.
-use mathlib.Core.Path.{_≡_, sym, ap, _∙_, subst}
+-- After the numbering of the regions: a refusal, or the listing of their outlines, which gives what the tracing promises.
+use mathlib.Core.Path.{_≡_, refl, sym, ap, _∙_, subst}
+use mathlib.Core.Bool.{Bool, true, false, _||_}
 use mathlib.Core.List.{List}
 use Prim.Native.Nat.{ℕ, _*_, _^_, _≤_}
 use native.Mathlib.Omega.{arith}
 use lib.ListN.{length, getD, replicate, length-replicate, getD-replicate}
+use lib.Dec.{ltb}
 use Rattle.sequences.specs.Cases.{written-accepted}
 use Rattle.sequences.specs.Over.{over, length-over, over-inside}
 use Rattle.sequences.specs.Powers.{pow4-mono}
 use Rattle.quadtree.specs.Blocks.{blocks, paint}
-use Rattle.quadtree.specs.Number.{number}
+use Rattle.quadtree.specs.Number.{numberWith}
 use Rattle.quadtree.specs.Accepted.{number-zero}
 use Rattle.components.specs.Numbers.{numbers, labels, regions}
 use Rattle.components.specs.Numbered.{number-below-regions}
-use Rattle.regions.specs.Promise.{Numbering, numberingNumber, labelsWritten, zerosWritten, regionsCounted, count-accepted, none}
+use Rattle.regions.specs.Promise.{Numbering, numberingNumber, labelsWritten, zerosWritten, regionsCounted, count-accepted}
+use Rattle.regions.specs.Callers.{refusal-leaves-all}
 use Rattle.regions.specs.declared.Numbered.{Numbered}
 use Rattle.grid.specs.Listing.{Cycle, listing, owners, ends, allCorners, cycleCount, cornerCount}
 use Rattle.grid.specs.Bounds.{cycles-fit, corner-count-fits}
@@ -20,21 +23,46 @@ use Rattle.links.specs.OverTwice.{over-twice}
 use Rattle.links.specs.FirstCycles.{all-regions}
 use Rattle.links.specs.Relabelled.{labels-room, relabelled, relabelled-paints, few-regions}
 use Rattle.tracing.specs.Outlining.{OutlinesAsked, OutlinesTold}
-use Rattle.tracing.specs.Tracing.{Lent, lent, tracingNumber, outlinesOf, cyclesWritten, labelsLeft, zerosLeft, regionsListed, Tracing, Needs, needs-met}
+use Rattle.tracing.specs.Tracing.{Lent, lent, tooShort, tracingNumber, outlinesOf, cyclesWritten, labelsLeft, zerosLeft, regionsListed, Tracing, Needs, needs-met, refused}
+use Rattle.tracing.specs.declared.Traced.{Traced}
 use Rattle.tracing.specs.declared.listing.Counts.{Counts}
 
-module _ (n : ℕ) (cs ls ks : List ℕ) (b : Lent) {k : ℕ} (asked : k ≡ tracingNumber n cs ls ks b) (zero-number : k ≡ 0) where
-  number-is : tracingNumber n cs ls ks b ≡ 0
-  number-is = sym asked ∙ zero-number
+-- Three tests that fail, the first two of them.
+first-two : (a b c : Bool) → a || (b || c) ≡ false → a || b ≡ false
+first-two true b c h = h
+first-two false true c h = h
+first-two false false c h = refl
 
-  met : Needs n cs ls ks b
-  met = needs-met n cs ls ks b number-is
+module _ (n : ℕ) (cs ls ks : List ℕ) (b : Lent) {short : Bool} (tested : short ≡ tooShort n (length cs) b) (enough : short ≡ false)
+    {labels₁ work₁ : List ℕ} {numbered : Numbered} (done : Numbering n cs ls ks (b .labelList) (b .workList) labels₁ work₁ numbered) where
+  -- Where no list is too short the two numbers are one.
+  same-number : numberingNumber n cs ls ks (b .labelList) (b .workList) ≡ tracingNumber n cs ls ks b
+  unfolding numberingNumber tracingNumber tooShort
+  same-number =
+      ap (λ (t : Bool). numberWith t n cs ls ks)
+      (first-two (ltb (length (b .labelList)) (length cs)) (ltb (length (b .workList)) (2 * 4 ^ n)) _ (sym tested ∙ enough) ∙ sym enough ∙ tested)
 
-  -- ---- after the numbering
+  answered : numbered .number ≡ numberingNumber n cs ls ks (b .labelList) (b .workList)
+  answered = ap (λ (r : Numbered). r .number) (done .answer)
 
-  module _ {labels₁ work₁ : List ℕ} {numbered : Numbered} (done : Numbering n cs ls ks (b .labelList) (b .workList) labels₁ work₁ numbered) where
+  pub numbering-refused : (numbered .number ≡ 0 → ⊥)
+      → Tracing n cs ls ks b (lent labels₁ work₁ (b .ownerList) (b .endList) (b .cornerList)) (record { number = numbered .number; regions = 0; cycles = 0; corners = 0 })
+  numbering-refused p =
+      let left = refusal-leaves-all done (omega arith) in
+      let answer : Traced = record { number = numbered .number; regions = 0; cycles = 0; corners = 0 } in
+      subst (λ (l : List ℕ). Tracing n cs ls ks b (lent l work₁ (b .ownerList) (b .endList) (b .cornerList)) answer) (sym (left .1))
+      (subst (λ (w : List ℕ). Tracing n cs ls ks b (lent (b .labelList) w (b .ownerList) (b .endList) (b .cornerList)) answer) (sym (left .2))
+      (refused n cs ls ks b p (answered ∙ same-number)))
+
+  module _ (zero-number : numbered .number ≡ 0) where
     accepted : numberingNumber n cs ls ks (b .labelList) (b .workList) ≡ 0
-    accepted = none n cs ls ks (b .labelList) (b .workList) (met .accepted) (met .for-labels) (met .for-work)
+    accepted = sym answered ∙ zero-number
+
+    number-is : tracingNumber n cs ls ks b ≡ 0
+    number-is = sym same-number ∙ accepted
+
+    met : Needs n cs ls ks b
+    met = needs-met n cs ls ks b number-is
 
     labels-are : labels₁ ≡ over (labels n (blocks cs ls ks)) (b .labelList)
     unfolding labelsWritten

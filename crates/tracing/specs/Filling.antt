@@ -4,7 +4,7 @@ use mathlib.Core.List.{List, [], _∷_, _++_, map}
 use Prim.Native.Nat.{ℕ, zero, suc, _+_, _/_, _%_, _^_, _≤_, _<_}
 use native.Mathlib.Numerals.{add-one}
 use native.Mathlib.Omega.{arith}
-use lib.ListN.{length, getD, take, replicate, length-map, length-take}
+use lib.ListN.{length, getD, set, take, replicate, length-map, length-take}
 use lib.Seq.{getD-take, ext-getD}
 use Rattle.sequences.specs.Over.{over, length-over, over-inside, over-beyond}
 use Rattle.sequences.specs.Powers.{pow4-mono}
@@ -17,7 +17,7 @@ use Rattle.quadtree.specs.Blocks.{Block, blocks, paint}
 use Rattle.quadtree.specs.Number.{number}
 use Rattle.quadtree.specs.Painting.{length-paint}
 use Rattle.quadtree.specs.Accepted.{number-zero}
-use Rattle.blocks.specs.Filling.{RowsFilled}
+use Rattle.blocks.specs.Filling.{RowsFilled, run-empty, run-one-more, rows-empty, rows-one-more}
 use Rattle.blocks.specs.Painting.{Paintable, PaintedTo, painted-more, painted-all}
 use Rattle.staircase.specs.FirstBlocks.{all-pixels}
 use Rattle.components.specs.Numbers.{numbers, labels}
@@ -44,6 +44,12 @@ pub record MapFilled (n : ℕ) (nums map map′ : List ℕ) : Type 0 where
 -- 1 plus each number of a list.
 unfoldable pub raised : List ℕ → List ℕ
 raised l = map suc l
+
+-- A square of one entry.
+pub entry-filled : {w at s v : ℕ} {old : List ℕ} → s ≡ 1 → at < length old → RowsFilled w at s s v old (set old at v)
+entry-filled {w} {at} {s} {v} {old} one room =
+    subst (λ (k : ℕ). RowsFilled w at k k v old (set old at v)) (sym one)
+    (rows-one-more at (omega arith) rows-empty (run-one-more at (omega arith) room run-empty))
 
 -- The value of each block: 1 plus its label.
 unfoldable pub values : List ℕ → List ℕ → List ℕ

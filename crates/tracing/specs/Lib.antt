@@ -4,8 +4,9 @@ pub mod Promise
 pub mod Look
 pub mod Rule
 pub mod Marks
-pub mod Walking
 pub mod Points
+pub mod Straight
+pub mod Walking
 pub mod Progress
 pub mod Unmarked
 pub mod Written

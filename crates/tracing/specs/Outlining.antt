@@ -65,19 +65,19 @@ module _ {n : ℕ} {codes levels labels work owned ended points : List ℕ} (ok 
   few : length codes ≤ 4 ^ n
   few = omega (arith, long, blocks-at-most-pixels bs, all-pixels n bs (ok .labelled .covering))
 
-  pub whole-small : 4 ^ n ≤ 65536
+  whole-small : 4 ^ n ≤ 65536
   whole-small = pow4-mono (ok .labelled .small)
 
   module _ {whole : ℕ} (size : whole ≡ pixelsOf n) where
     whole-is : whole ≡ 4 ^ n
     whole-is = size ∙ pixels-are-power n (omega (arith, ok .labelled .small))
 
-    pub whole-low : whole ≤ 65536
-    whole-low = omega (arith, whole-is, whole-small)
+    pub used-low : whole + length codes ≤ 131072
+    used-low = omega (arith, whole-is, whole-small, few)
 
     pub linkable : Linkable whole (length codes) labels work
     linkable = record {
-      small = whole-low;
+      small = omega (arith, whole-is, whole-small);
       few = omega (arith, whole-is, few);
       labels = ok .enough;
       long = omega (arith, whole-is, ok .for-work);
@@ -126,10 +126,10 @@ module _ {n : ℕ} {codes levels labels work owned ended points : List ℕ} (ok 
 
         module _ {work′ owned′ ended′ points′ : List ℕ} {cycles at : ℕ}
             (t : AllTold n codes levels labels (state mapped owned ended points 0 0) (state work′ owned′ ended′ points′ cycles at)) where
-          pub clear-room : 0 + 2 * whole ≤ length work′
-          clear-room = omega (arith, whole-is, t .listed .long, filled .same-length, l .long, ok .for-work)
+          pub clear-room : 0 + (whole + length codes) ≤ length work′
+          clear-room = omega (arith, whole-is, few, t .listed .long, filled .same-length, l .long, ok .for-work)
 
-          pub told : {cleared : List ℕ} → RunFilled 0 (2 * whole) 0 work′ cleared
+          pub told : {cleared : List ℕ} → RunFilled 0 (whole + length codes) 0 work′ cleared
               → OutlinesTold n codes levels labels work owned ended points cleared owned′ ended′ points′ (record { cycles = cycles; corners = at })
           unfolding cycleCount cornerCount
           told {cleared} r = record {
@@ -147,16 +147,23 @@ module _ {n : ℕ} {codes levels labels work owned ended points : List ℕ} (ok 
               zeros-long : length zeros ≡ 2 * 4 ^ n
               zeros-long = length-replicate (2 * 4 ^ n) 0
 
+              -- what lies behind the map and the links is as it was
+              kept : (j : ℕ) → whole + length codes ≤ j → getD cleared j 0 ≡ getD work j 0
+              kept j h =
+                  r .outside j (inr (omega arith))
+                  ∙ t .listed .beyond j (omega (arith, whole-is))
+                  ∙ filled .beyond j (omega (arith, whole-is))
+                  ∙ l .beyond j h
+
+              blank : (j : ℕ) → j < 2 * 4 ^ n → Dec (j < whole + length codes) → getD cleared j 0 ≡ 0
+              blank j h (yes k) = r .inside j (omega arith) (omega arith)
+              blank j h (no k) = kept j (omega arith) ∙ ok .zeros j h
+
               at-place : (j : ℕ) → Dec (j < 2 * 4 ^ n) → getD cleared j 0 ≡ getD (over zeros work) j 0
               at-place j (yes h) =
-                  r .inside j (omega arith) (omega (arith, whole-is))
+                  blank j h (decLt j (whole + length codes))
                   ∙ sym (over-inside zeros work j (omega (arith, zeros-long)) ∙ getD-replicate (2 * 4 ^ n) j 0 0 h)
-              at-place j (no h) =
-                  r .outside j (inr (omega (arith, whole-is)))
-                  ∙ t .listed .beyond j (omega arith)
-                  ∙ filled .beyond j (omega arith)
-                  ∙ l .beyond j (omega (arith, whole-is))
-                  ∙ sym (over-beyond zeros work j (omega (arith, zeros-long)))
+              at-place j (no h) = kept j (omega (arith, whole-is, few)) ∙ sym (over-beyond zeros work j (omega (arith, zeros-long)))
 
               same : cleared ≡ over zeros work
               same =

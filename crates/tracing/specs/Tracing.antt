@@ -10,14 +10,13 @@ use lib.Dec.{ltb}
 use borrow.Author.Tests.{lt-ltb, le-ltb}
 use Rattle.sequences.specs.Cases.{when, ifAccepted, first-some, first-none, when-yes, when-no, written-refused}
 use Rattle.sequences.specs.Over.{over, over-none}
-use Rattle.sequences.specs.Powers.{pow4-mono}
-use Rattle.location.specs.Levels.{pixelsOf, pixels-are-power}
 use Rattle.quadtree.specs.Blocks.{blocks, paint}
 use Rattle.quadtree.specs.Number.{number, numberWith}
-use Rattle.quadtree.specs.Accepted.{number-zero}
+use Rattle.blocks.specs.Checking.{number-large}
 use Rattle.components.specs.Numbers.{numbers, labels, regions}
 use Rattle.regions.specs.Promise.{countIfAccepted, count-refused}
 use Rattle.grid.specs.Listing.{Cycle, listing, owners, ends, allCorners, cycleCount, cornerCount}
+use Rattle.links.specs.Image.{imageOutlines}
 use Rattle.tracing.specs.declared.Traced.{Traced}
 
 -- "tracing is lent these and the owner, end and corner lists": the label and the work list, and those.
@@ -46,7 +45,7 @@ tracingNumber n cs ls ks b = numberWith (tooShort n (length cs) b) n cs ls ks
 -- All cycles of the image that a block list paints, as they are listed.
 unfoldable pub outlinesOf : ℕ → List ℕ → List ℕ → List ℕ → List Cycle
 unfolding listing numbers regions paint blocks
-outlinesOf n cs ls ks = listing n (numbers n (paint (blocks cs ls ks))) (regions n (paint (blocks cs ls ks)))
+outlinesOf n cs ls ks = imageOutlines n (paint (blocks cs ls ks))
 
 -- What is written: all cycles, the labels, and zeros in the work list; nothing on a refusal.
 unfoldable pub cyclesWritten : ℕ → List ℕ → List ℕ → List ℕ → Lent → List Cycle
@@ -91,103 +90,93 @@ pub record Needs (n : ℕ) (cs ls ks : List ℕ) (b : Lent) : Type 0 where
   pub for-corners : 4 * 4 ^ n ≤ length (b .cornerList)
 
 -- Tests one of which holds, or none.
-first-holds : (a b : Bool) → a ≡ true → a || b ≡ true
-first-holds a b h = ap (λ (t : Bool). t || b) h
+first-holds : (a b : Bool) → a ≡ true → true ≡ a || b
+first-holds a b h = sym (ap (λ (t : Bool). t || b) h)
 
-none-hold : (a b : Bool) → a ≡ false → a || b ≡ b
-none-hold a b h = ap (λ (t : Bool). t || b) h
+none-hold : (a b : Bool) → a ≡ false → b ≡ a || b
+none-hold a b h = sym (ap (λ (t : Bool). t || b) h)
+
+-- The first list that is shorter than its need, for an image of `whole` pixels.
+module _ (n count : ℕ) (b : Lent) {whole : ℕ} (is : whole ≡ 4 ^ n) where
+  pub too-few-labels : length (b .labelList) < count → true ≡ tooShort n count b
+  unfolding tooShort
+  too-few-labels h = first-holds (ltb (length (b .labelList)) count) _ (lt-ltb (length (b .labelList)) count h)
+
+  module _ (l : count ≤ length (b .labelList)) where
+    past-labels : (rest : Bool) → rest ≡ ltb (length (b .labelList)) count || rest
+    past-labels rest = none-hold (ltb (length (b .labelList)) count) rest (le-ltb (length (b .labelList)) count l)
+
+    pub too-short-work : length (b .workList) < 2 * whole → true ≡ tooShort n count b
+    unfolding tooShort
+    too-short-work h =
+        first-holds (ltb (length (b .workList)) (2 * 4 ^ n)) _ (lt-ltb (length (b .workList)) (2 * 4 ^ n) (omega (arith, is))) ∙ past-labels _
+
+    module _ (w : 2 * whole ≤ length (b .workList)) where
+      past-work : (rest : Bool) → rest ≡ ltb (length (b .labelList)) count || (ltb (length (b .workList)) (2 * 4 ^ n) || rest)
+      past-work rest =
+          none-hold (ltb (length (b .workList)) (2 * 4 ^ n)) rest (le-ltb (length (b .workList)) (2 * 4 ^ n) (omega (arith, is)))
+          ∙ past-labels (ltb (length (b .workList)) (2 * 4 ^ n) || rest)
+
+      pub too-few-owners : length (b .ownerList) < whole → true ≡ tooShort n count b
+      unfolding tooShort
+      too-few-owners h = first-holds (ltb (length (b .ownerList)) (4 ^ n)) _ (lt-ltb (length (b .ownerList)) (4 ^ n) (omega (arith, is))) ∙ past-work _
+
+      module _ (o : whole ≤ length (b .ownerList)) where
+        past-owners : (rest : Bool)
+            → rest ≡ ltb (length (b .labelList)) count || (ltb (length (b .workList)) (2 * 4 ^ n) || (ltb (length (b .ownerList)) (4 ^ n) || rest))
+        past-owners rest =
+            none-hold (ltb (length (b .ownerList)) (4 ^ n)) rest (le-ltb (length (b .ownerList)) (4 ^ n) (omega (arith, is)))
+            ∙ past-work (ltb (length (b .ownerList)) (4 ^ n) || rest)
+
+        pub too-few-ends : length (b .endList) < whole → true ≡ tooShort n count b
+        unfolding tooShort
+        too-few-ends h = first-holds (ltb (length (b .endList)) (4 ^ n)) _ (lt-ltb (length (b .endList)) (4 ^ n) (omega (arith, is))) ∙ past-owners _
+
+        module _ (e : whole ≤ length (b .endList)) where
+          pub by-corners : ltb (length (b .cornerList)) (4 * whole) ≡ tooShort n count b
+          unfolding tooShort
+          by-corners =
+              ap (λ (size : ℕ). ltb (length (b .cornerList)) (4 * size)) is
+              ∙ none-hold (ltb (length (b .endList)) (4 ^ n)) _ (le-ltb (length (b .endList)) (4 ^ n) (omega (arith, is)))
+              ∙ past-owners _
 
 module _ (n : ℕ) (cs ls ks : List ℕ) (b : Lent) where
-  pub list-fault : (k : ℕ) → k ≡ number n cs ls ks → (k ≡ 0 → ⊥) → k ≡ tracingNumber n cs ls ks b
+  list-fault : (k : ℕ) → k ≡ number n cs ls ks → (k ≡ 0 → ⊥) → k ≡ tracingNumber n cs ls ks b
   unfolding tracingNumber numberWith
   list-fault k e p = e ∙ sym (first-some (number n cs ls ks) (when (tooShort n (length cs) b) 8) (omega arith))
 
   module _ (accepted : number n cs ls ks ≡ 0) where
-    short : tooShort n (length cs) b ≡ true → 8 ≡ tracingNumber n cs ls ks b
+    short : true ≡ tooShort n (length cs) b → 8 ≡ tracingNumber n cs ls ks b
     unfolding tracingNumber numberWith
-    short h = sym (first-none (number n cs ls ks) (when (tooShort n (length cs) b) 8) accepted ∙ when-yes (tooShort n (length cs) b) 8 h)
+    short h = sym (first-none (number n cs ls ks) (when (tooShort n (length cs) b) 8) accepted ∙ when-yes (tooShort n (length cs) b) 8 (sym h))
 
     pub labels-short : length (b .labelList) < length cs → 8 ≡ tracingNumber n cs ls ks b
-    unfolding tooShort
-    labels-short h = short (first-holds (ltb (length (b .labelList)) (length cs)) _ (lt-ltb (length (b .labelList)) (length cs) h))
+    labels-short h = short (too-few-labels n (length cs) b refl h)
 
     module _ (l : length cs ≤ length (b .labelList)) where
       pub work-short : length (b .workList) < 2 * 4 ^ n → 8 ≡ tracingNumber n cs ls ks b
-      unfolding tooShort
-      work-short h =
-          short
-          (none-hold (ltb (length (b .labelList)) (length cs)) _ (le-ltb (length (b .labelList)) (length cs) l)
-          ∙ first-holds (ltb (length (b .workList)) (2 * 4 ^ n)) _ (lt-ltb (length (b .workList)) (2 * 4 ^ n) h))
+      work-short h = short (too-short-work n (length cs) b refl l h)
 
       module _ (w : 2 * 4 ^ n ≤ length (b .workList)) where
         pub owners-short : length (b .ownerList) < 4 ^ n → 8 ≡ tracingNumber n cs ls ks b
-        unfolding tooShort
-        owners-short h =
-            short
-            (none-hold (ltb (length (b .labelList)) (length cs)) _ (le-ltb (length (b .labelList)) (length cs) l)
-            ∙ none-hold (ltb (length (b .workList)) (2 * 4 ^ n)) _ (le-ltb (length (b .workList)) (2 * 4 ^ n) w)
-            ∙ first-holds (ltb (length (b .ownerList)) (4 ^ n)) _ (lt-ltb (length (b .ownerList)) (4 ^ n) h))
+        owners-short h = short (too-few-owners n (length cs) b refl l w h)
 
         module _ (o : 4 ^ n ≤ length (b .ownerList)) where
           pub ends-short : length (b .endList) < 4 ^ n → 8 ≡ tracingNumber n cs ls ks b
-          unfolding tooShort
-          ends-short h =
-              short
-              (none-hold (ltb (length (b .labelList)) (length cs)) _ (le-ltb (length (b .labelList)) (length cs) l)
-              ∙ none-hold (ltb (length (b .workList)) (2 * 4 ^ n)) _ (le-ltb (length (b .workList)) (2 * 4 ^ n) w)
-              ∙ none-hold (ltb (length (b .ownerList)) (4 ^ n)) _ (le-ltb (length (b .ownerList)) (4 ^ n) o)
-              ∙ first-holds (ltb (length (b .endList)) (4 ^ n)) _ (lt-ltb (length (b .endList)) (4 ^ n) h))
+          ends-short h = short (too-few-ends n (length cs) b refl l w o h)
 
           module _ (e : 4 ^ n ≤ length (b .endList)) where
-            last : tooShort n (length cs) b ≡ ltb (length (b .cornerList)) (4 * 4 ^ n)
-            unfolding tooShort
-            last =
-                none-hold (ltb (length (b .labelList)) (length cs)) _ (le-ltb (length (b .labelList)) (length cs) l)
-                ∙ none-hold (ltb (length (b .workList)) (2 * 4 ^ n)) _ (le-ltb (length (b .workList)) (2 * 4 ^ n) w)
-                ∙ none-hold (ltb (length (b .ownerList)) (4 ^ n)) _ (le-ltb (length (b .ownerList)) (4 ^ n) o)
-                ∙ none-hold (ltb (length (b .endList)) (4 ^ n)) _ (le-ltb (length (b .endList)) (4 ^ n) e)
+            last : ltb (length (b .cornerList)) (4 * 4 ^ n) ≡ tooShort n (length cs) b
+            last = by-corners n (length cs) b refl l w o e
 
             pub corners-short : length (b .cornerList) < 4 * 4 ^ n → 8 ≡ tracingNumber n cs ls ks b
-            corners-short h = short (last ∙ lt-ltb (length (b .cornerList)) (4 * 4 ^ n) h)
+            corners-short h = short (sym (lt-ltb (length (b .cornerList)) (4 * 4 ^ n) h) ∙ last)
 
             pub none-short : 4 * 4 ^ n ≤ length (b .cornerList) → 0 ≡ tracingNumber n cs ls ks b
             unfolding tracingNumber numberWith
             none-short h =
                 sym (first-none (number n cs ls ks) (when (tooShort n (length cs) b) 8) accepted
-                ∙ when-no (tooShort n (length cs) b) 8 (last ∙ le-ltb (length (b .cornerList)) (4 * 4 ^ n) h))
-
-  -- The same with the number of pixels as the code has it.
-  module _ {k whole : ℕ} (asked : k ≡ number n cs ls ks) (none : k ≡ 0) (size : whole ≡ pixelsOf n) where
-    ok : number n cs ls ks ≡ 0
-    ok = sym asked ∙ none
-
-    is : whole ≡ 4 ^ n
-    is = size ∙ pixels-are-power n (omega (arith, number-zero n cs ls ks ok .small))
-
-    pub whole-low : whole ≤ 65536
-    whole-low = let w : 4 ^ n ≤ 4 ^ 8 = pow4-mono (number-zero n cs ls ks ok .small) in omega (arith, is)
-
-    pub fault-labels : length (b .labelList) < length cs → 8 ≡ tracingNumber n cs ls ks b
-    fault-labels h = labels-short ok h
-
-    module _ (l : length cs ≤ length (b .labelList)) where
-      pub fault-work : length (b .workList) < 2 * whole → 8 ≡ tracingNumber n cs ls ks b
-      fault-work h = work-short ok l (omega (arith, is))
-
-      module _ (w : 2 * whole ≤ length (b .workList)) where
-        pub fault-owners : length (b .ownerList) < whole → 8 ≡ tracingNumber n cs ls ks b
-        fault-owners h = owners-short ok l (omega (arith, is)) (omega (arith, is))
-
-        module _ (o : whole ≤ length (b .ownerList)) where
-          pub fault-ends : length (b .endList) < whole → 8 ≡ tracingNumber n cs ls ks b
-          fault-ends h = ends-short ok l (omega (arith, is)) (omega (arith, is)) (omega (arith, is))
-
-          module _ (e : whole ≤ length (b .endList)) where
-            pub fault-corners : length (b .cornerList) < 4 * whole → 8 ≡ tracingNumber n cs ls ks b
-            fault-corners h = corners-short ok l (omega (arith, is)) (omega (arith, is)) (omega (arith, is)) (omega (arith, is))
-
-            pub no-fault : 4 * whole ≤ length (b .cornerList) → 0 ≡ tracingNumber n cs ls ks b
-            no-fault h = none-short ok l (omega (arith, is)) (omega (arith, is)) (omega (arith, is)) (omega (arith, is))
+                ∙ when-no (tooShort n (length cs) b) 8 (sym last ∙ le-ltb (length (b .cornerList)) (4 * 4 ^ n) h))
 
   -- Where the number is 0 no cause applies.
   pub needs-met : tracingNumber n cs ls ks b ≡ 0 → Needs n cs ls ks b
@@ -242,3 +231,14 @@ module _ (n : ℕ) (cs ls ks : List ℕ) (b : Lent) where
         in-ends = sym (ap (λ (c : List Cycle). over (ends c) (b .endList)) no-cycles ∙ over-none (b .endList));
         in-corners = sym (ap (λ (c : List Cycle). over (allCorners c) (b .cornerList)) no-cycles ∙ over-none (b .cornerList));
       }
+
+  -- 1 comes first; 8 comes where the check finds nothing.
+  pub large-refused : 8 < n → Tracing n cs ls ks b b (record { number = 1; regions = 0; cycles = 0; corners = 0 })
+  large-refused h = refused (λ z. omega arith) (list-fault 1 (number-large n cs ls ks h) (λ z. omega arith))
+
+  module _ {k : ℕ} (checked : k ≡ number n cs ls ks) where
+    pub fault-refused : (k ≡ 0 → ⊥) → Tracing n cs ls ks b b (record { number = k; regions = 0; cycles = 0; corners = 0 })
+    fault-refused p = refused p (list-fault k checked p)
+
+    pub short-refused : k ≡ 0 → {t : Bool} → t ≡ tooShort n (length cs) b → t ≡ true → Tracing n cs ls ks b b (record { number = 8; regions = 0; cycles = 0; corners = 0 })
+    short-refused z tested h = refused (λ y. omega arith) (short (sym checked ∙ z) (sym h ∙ tested))

@@ -1,40 +1,41 @@
 -- The walk along one cycle that writes its corners and marks its eastward edges: what holds at the loop's head, and that a turn keeps it.
 use mathlib.Core.Path.{_≡_, refl, sym, ap, _∙_, subst}
 use mathlib.Core.Logic.{_≢_}
-use mathlib.Core.Bool.{cond}
 use mathlib.Core.List.{List, [], _∷_, _++_, append-assoc, append-nil}
-use Prim.Native.Nat.{ℕ, zero, suc, _+_, _≤_, _<_}
+use Prim.Native.Nat.{ℕ, zero, suc, _+_, _*_, _≤_, _<_}
 use native.Mathlib.Nat.{not-suc-le-zero}
-use native.Mathlib.Decide.{ℕ-discrete}
 use native.Mathlib.Omega.{arith}
 use lib.ListN.{length, set, length-append, length-set}
-use lib.Dec.{eqb}
-use borrow.Author.Tests.{eq-eqb, ne-eqb}
 use Rattle.sequences.specs.Over.{over, over-none, over-push}
-use Rattle.lattice.specs.Directions.{tail, digit}
+use Rattle.lattice.specs.Directions.{point, edge, tail, digit}
 use Rattle.lattice.specs.Walks.{turns}
 use Rattle.lattice.specs.Corners.{turns-on, turns-turn}
+use Rattle.lattice.specs.Outlines.{tail-edge, digit-edge}
 use Rattle.orbits.specs.Orbits.{until, Returns}
 use Rattle.orbits.specs.Ahead.{Ahead, round, arrived, Further, further}
 use Rattle.grid.specs.Margins.{Margin}
 use Rattle.grid.specs.Steps.{Edge, step}
 use Rattle.grid.specs.Cycles.{cycleFrom}
-use Rattle.grid.specs.Undoing.{step-edge}
+use Rattle.grid.specs.Undoing.{digit-below-four, step-edge}
 use Rattle.grid.specs.Returning.{edge-returns}
 use Rattle.grid.specs.Closing.{others, cycle-first}
 use Rattle.tracing.specs.Look.{mapAt, Square, at-margin}
 use Rattle.tracing.specs.Marks.{mark, marks, length-mark, map-kept}
+use Rattle.tracing.specs.Rule.{Way, way}
+use Rattle.tracing.specs.Points.{EdgeAt}
+use Rattle.tracing.specs.Straight.{Straight, turning, straight-on, Gone}
 
 -- The corners of the cycle through the edge s of a map, where s turns.
 unfoldable pub cornersFrom : (ℕ → ℕ → ℕ) → ℕ → List ℕ
 unfolding tail digit turns others
 cornersFrom m s = tail s ∷ turns (digit s) (others m s)
 
--- The edge s of the region r has room for the corners of its cycle.
+-- The edge s of the region r turns, and there is room for the corners of its cycle.
 pub record Ready (side r s : ℕ) (map out : List ℕ) : Type 0 where
   pub square : Square side map
   pub on-region : Edge (mapAt side map) r s
   pub room : length (cornersFrom (mapAt side map) s) ≤ length out
+  pub corner : (e : ℕ) → Edge (mapAt side map) r e → step (mapAt side map) e ≡ s → digit e ≢ digit s
 
 -- They are written, and the eastward edges of the cycle are marked.
 pub record Walked (side r s : ℕ) (map out map′ out′ : List ℕ) (k : ℕ) : Type 0 where
@@ -81,15 +82,12 @@ pub record Passed (side r s : ℕ) (map₀ out₀ map out : List ℕ) (used d e 
   pub marked : marks side r (rest (mapAt side map₀) s e) map ≡ marks side r (cycleFrom (mapAt side map₀) s) map₀
 
 module _ {side r s : ℕ} {map₀ out₀ : List ℕ} (ready : Ready side r s map₀ out₀) where
-  abbrev m₀ : ℕ → ℕ → ℕ
-  m₀ = mapAt side map₀
-
   margin-here : Margin (mapAt side map₀)
   margin-here = at-margin side map₀ (ready .square .small)
 
-  pub begin : digit s ≡ 0 → Going side r s map₀ out₀ map₀ out₀ 0 4 s
+  begin : Going side r s map₀ out₀ map₀ out₀ 0 4 s
   unfolding rest cornersFrom others
-  begin z = from (edge-returns (mapAt side map₀) margin-here r s (ready .on-region))
+  begin = from (edge-returns (mapAt side map₀) margin-here r s (ready .on-region))
     where
       from : (k : ℕ) × (k ≤ 526336) × Returns (step (mapAt side map₀)) s k → Going side r s map₀ out₀ map₀ out₀ 0 4 s
       from (zero, h, t) = absurd (not-suc-le-zero (t .positive))
@@ -104,7 +102,7 @@ module _ {side r s : ℕ} {map₀ out₀ : List ℕ} (ready : Ready side r s map
         done = [];
         so-far = refl;
         list = sym (over-none out₀);
-        total = turns-turn 4 s (others (mapAt side map₀) s) (omega arith);
+        total = turns-turn 4 s (others (mapAt side map₀) s) (omega (arith, digit-below-four s));
         marked = ap (λ l. marks side r l map₀) (sym (cycle-first (mapAt side map₀) s));
       }
 
@@ -112,25 +110,14 @@ module _ {side r s : ℕ} {map₀ out₀ : List ℕ} (ready : Ready side r s map
     next : List ℕ
     next = rest (mapAt side map₀) s (step (mapAt side map₀) e)
 
-    pub square-here : Square side map
+    square-here : Square side map
     square-here = record { small = ready .square .small; room = omega (arith, ready .square .room, g .long) }
 
-    pub edge-here : Edge (mapAt side map) r e
+    edge-here : Edge (mapAt side map) r e
     edge-here = subst (λ m. Edge m r e) (sym (g .same-map)) (g .on-region)
 
-    -- The same once the edge is marked.
-    module _ {map′ : List ℕ} (hm : map′ ≡ mark side r map e) where
-      pub map-then : mapAt side map′ ≡ mapAt side map₀
-      map-then = ap (mapAt side) hm ∙ map-kept square-here e edge-here ∙ g .same-map
-
-      pub long-then : length map′ ≡ length map₀
-      long-then = ap length hm ∙ length-mark side r map e ∙ g .long
-
-      pub square-then : Square side map′
-      square-then = record { small = ready .square .small; room = omega (arith, ready .square .room, long-then) }
-
     -- Room for one corner more, where one is due.
-    pub room-here : d ≢ digit e → used < length out
+    room-here : d ≢ digit e → used < length out
     unfolding next
     room-here n =
         let l : length (g .done ++ tail e ∷ turns (digit e) next) ≡ length (cornersFrom (mapAt side map₀) s) =
@@ -138,45 +125,48 @@ module _ {side r s : ℕ} {map₀ out₀ : List ℕ} (ready : Ready side r s map
         let a : length (g .done) < length out₀ = omega (arith, l, ready .room, length-append (g .done) (tail e ∷ turns (digit e) next)) in
         omega (arith, a, g .wide, g .so-far)
 
-    pub pass : {used′ : ℕ} {out′ map′ : List ℕ} {e′ : ℕ} → used′ ≡ cond (eqb d (digit e)) used (used + 1) → out′ ≡ cond (eqb d (digit e)) out (set out used (tail e))
-        → map′ ≡ mark side r map e → e′ ≡ step (mapAt side map₀) e → Passed side r s map₀ out₀ map′ out′ used′ (digit e) e′
-    unfolding next marks
-    pass {used′} {out′} {map′} {e′} hu hc hm here = pick (ℕ-discrete d (digit e))
-      where
-        made : (done : List ℕ) → length out′ ≡ length out₀ → used′ ≡ length done → out′ ≡ over done out₀ → done ++ turns (digit e) next ≡ cornersFrom (mapAt side map₀) s
-            → Passed side r s map₀ out₀ map′ out′ used′ (digit e) e′
-        made done k a b t = record {
-          left = g .left;
-          ahead = rw here (g .ahead);
-          enough = g .enough;
-          on-region = rw here (step-edge (mapAt side map₀) margin-here r e (g .on-region));
-          same-map = map-then hm;
-          long = long-then hm;
-          wide = k;
-          done = done;
-          so-far = a;
-          list = b;
-          total = rw here t;
-          marked = rw (here, hm) (g .marked);
-        }
+    -- The corner is written.
+    push : d ≢ digit e → Going side r s map₀ out₀ map (set out used (tail e)) (used + 1) (digit e) e
+    unfolding next
+    push n = record {
+      left = g .left;
+      ahead = g .ahead;
+      enough = g .enough;
+      on-region = g .on-region;
+      same-map = g .same-map;
+      long = g .long;
+      wide = length-set out used (tail e) ∙ g .wide;
+      done = g .done ++ (tail e ∷ []);
+      so-far = omega (arith, length-append (g .done) (tail e ∷ []), g .so-far);
+      list = ap (λ t. set t used (tail e)) (g .list) ∙ over-push (g .done) out₀ (tail e) used (g .so-far) (omega (arith, room-here n, g .wide));
+      total = ap (λ t. (g .done ++ (tail e ∷ [])) ++ t) (turns-on (digit e) e next refl)
+          ∙ append-assoc (g .done) (tail e ∷ []) (turns (digit e) next) ∙ ap (λ t. g .done ++ t) (sym (turns-turn d e next n)) ∙ g .total;
+      marked = g .marked;
+    }
 
-        pick : Dec (d ≡ digit e) → Passed side r s map₀ out₀ map′ out′ used′ (digit e) e′
-        pick (yes h) =
-            let k : out′ ≡ out = hc ∙ ap (λ b. cond b out (set out used (tail e))) (eq-eqb d (digit e) h) in
-            made (g .done) (ap length k ∙ g .wide) (hu ∙ ap (λ b. cond b used (used + 1)) (eq-eqb d (digit e) h) ∙ g .so-far) (k ∙ g .list)
-            (ap (λ x. g .done ++ turns x next) (sym h) ∙ ap (λ t. g .done ++ t) (sym (turns-on d e next h)) ∙ g .total)
-        pick (no n) =
-            let k : out′ ≡ set out used (tail e) = hc ∙ ap (λ b. cond b out (set out used (tail e))) (ne-eqb d (digit e) n) in
-            let u : used′ ≡ used + 1 = hu ∙ ap (λ b. cond b used (used + 1)) (ne-eqb d (digit e) n) in
-            made (g .done ++ (tail e ∷ [])) (ap length k ∙ length-set out used (tail e) ∙ g .wide) (omega (arith, length-append (g .done) (tail e ∷ []), g .so-far))
-            (k ∙ ap (λ t. set t used (tail e)) (g .list) ∙ over-push (g .done) out₀ (tail e) used (g .so-far) (omega (arith, room-here n, g .wide)))
-            (append-assoc (g .done) (tail e ∷ []) (turns (digit e) next) ∙ ap (λ t. g .done ++ t) (sym (turns-turn d e next n)) ∙ g .total)
+    -- The edge is marked, and no corner is due at its tail.
+    pass : {map′ : List ℕ} {e′ : ℕ} → d ≡ digit e → map′ ≡ mark side r map e → e′ ≡ step (mapAt side map₀) e → Passed side r s map₀ out₀ map′ out used d e′
+    unfolding next marks
+    pass {map′} {e′} same hm here = record {
+      left = g .left;
+      ahead = rw here (g .ahead);
+      enough = g .enough;
+      on-region = rw here (step-edge (mapAt side map₀) margin-here r e (g .on-region));
+      same-map = ap (mapAt side) hm ∙ map-kept square-here e edge-here ∙ g .same-map;
+      long = ap length hm ∙ length-mark side r map e ∙ g .long;
+      wide = g .wide;
+      done = g .done;
+      so-far = g .so-far;
+      list = g .list;
+      total = rw here (ap (λ t. g .done ++ t) (sym (turns-on d e next same)) ∙ g .total);
+      marked = rw (here, hm) (g .marked);
+    }
 
   module _ {map out : List ℕ} {used d e : ℕ} (p : Passed side r s map₀ out₀ map out used d e) where
     more : e ≢ s → Further (step (mapAt side map₀)) s 526336 e (p .left)
     more n = further (step (mapAt side map₀)) s 526336 e (p .left) (p .enough) n (p .ahead)
 
-    pub again : e ≢ s → Going side r s map₀ out₀ map out used d e
+    again : e ≢ s → Going side r s map₀ out₀ map out used d e
     unfolding rest
     again n =
         let f : Further (step (mapAt side map₀)) s 526336 e (p .left) = more n in
@@ -196,11 +186,11 @@ module _ {side r s : ℕ} {map₀ out₀ : List ℕ} (ready : Ready side r s map
         }
 
     -- What is left gets shorter.
-    pub less : e ≢ s → length (rest (mapAt side map₀) s (step (mapAt side map₀) e)) < length (rest (mapAt side map₀) s e)
+    less : e ≢ s → length (rest (mapAt side map₀) s (step (mapAt side map₀) e)) < length (rest (mapAt side map₀) s e)
     unfolding rest
     less n = one-less (more n .list)
 
-    pub finish : e ≡ s → Walked side r s map₀ out₀ map out used
+    finish : e ≡ s → Walked side r s map₀ out₀ map out used
     unfolding rest turns marks
     finish h =
         let z : until 526336 (step (mapAt side map₀)) s e ≡ [] = arrived (step (mapAt side map₀)) s 526336 e h in
@@ -209,4 +199,100 @@ module _ {side r s : ℕ} {map₀ out₀ : List ℕ} (ready : Ready side r s map
           count = p .so-far ∙ ap length t;
           list = p .list ∙ ap (λ l. over l out₀) t;
           marked = ap (λ l. marks side r l map) (sym z) ∙ p .marked;
+        }
+
+  -- Straight on from the edge e, whose corner is written.
+  record Through (map′ out : List ℕ) (used d e e′ : ℕ) : Type 0 where
+    pub passed : Passed side r s map₀ out₀ map′ out used d e′
+    pub turned : d ≢ digit e′
+    pub shorter : e′ ≢ s → length (rest (mapAt side map₀) s (step (mapAt side map₀) e′)) < length (rest (mapAt side map₀) s (step (mapAt side map₀) e))
+
+  through : {map map′ out : List ℕ} {used d e e′ : ℕ} → Straight side r (mapAt side map₀) map′ e′ map e → d ≡ digit e
+      → Going side r s map₀ out₀ map out used d e → Through map′ out used d e e′
+  through {map} {map′} {out} {used} {d} {e} {e′} (turning hm here n) same g =
+      let p : Passed side r s map₀ out₀ map′ out used d e′ = pass g same hm here in
+      record {
+        passed = p;
+        turned = λ h. n (sym h ∙ same);
+        shorter = λ o. subst (λ a. length (rest (mapAt side map₀) s (step (mapAt side map₀) e′)) < length (rest (mapAt side map₀) s a)) here (less p o);
+      }
+  through {map} {map′} {out} {used} {d} {e} {e′} (straight-on straight more) same g =
+      let p : Passed side r s map₀ out₀ (mark side r map e) out used d (step (mapAt side map₀) e) = pass g same refl refl in
+      let o : step (mapAt side map₀) e ≢ s = λ h. ready .corner e (g .on-region) h (sym straight ∙ ap digit h) in
+      let t : Through map′ out used d (step (mapAt side map₀) e) e′ = through more (same ∙ sym straight) (again p o) in
+      record {
+        passed = t .passed;
+        turned = t .turned;
+        shorter = λ n. omega (arith, t .shorter n, less p o);
+      }
+
+-- At the loop's head: a corner is due at (x, y), where the edge with the digit d begins.
+pub record Walking (side r s : ℕ) (map₀ out₀ map out : List ℕ) (used x y d : ℕ) : Type 0 where
+  pub x-low : x < 512
+  pub low : d < 4
+  pub before : ℕ
+  pub due : before ≢ d
+  pub going : Going side r s map₀ out₀ map out used before (edge (point x y) d)
+
+module _ {side r s : ℕ} {map₀ out₀ map out : List ℕ} {used x y d : ℕ} (ready : Ready side r s map₀ out₀) (w : Walking side r s map₀ out₀ map out used x y d) where
+  corner-due : w .before ≢ digit (edge (point x y) d)
+  corner-due h = w .due (h ∙ digit-edge (point x y) d (w .low))
+
+  pub walking-room : used < length out
+  walking-room = room-here ready (w .going) corner-due
+
+  pub walking-at : EdgeAt side r map x y d
+  walking-at = record { square = square-here ready (w .going); x-low = w .x-low; low = w .low; on-region = edge-here ready (w .going) }
+
+-- What is left of the cycle after the edge.
+unfoldable pub leftAfter : ℕ → ℕ → List ℕ → ℕ → ℕ → ℕ → ℕ
+unfolding rest step edge point mapAt
+leftAfter side s map x y d = length (rest (mapAt side map) s (step (mapAt side map) (edge (point x y) d)))
+
+-- After one turn of the loop, before the test for the start (column, row).
+pub record Turned (side r column row : ℕ) (map₀ out₀ map out : List ℕ) (used x y d x′ y′ d′ : ℕ) : Type 0 where
+  pub low : 4 * (512 * y′ + x′) + d′ < 1048576
+  pub long : length map ≡ length map₀
+  pub wide : length out ≡ length out₀
+  pub ends : 4 * (512 * y′ + x′) + d′ ≡ 4 * (512 * row + column) → Walked side r (edge (point column row) 0) map₀ out₀ map out used
+  pub again : 4 * (512 * y′ + x′) + d′ ≢ 4 * (512 * row + column) → Walking side r (edge (point column row) 0) map₀ out₀ map out used x′ y′ d′
+  pub shorter : 4 * (512 * y′ + x′) + d′ ≢ 4 * (512 * row + column) → leftAfter side (edge (point column row) 0) map₀ x′ y′ d′ < leftAfter side (edge (point column row) 0) map₀ x y d
+
+at-start : (column row x y d : ℕ) → 4 * (512 * y + x) + d ≡ 4 * (512 * row + column) → edge (point x y) d ≡ edge (point column row) 0
+unfolding edge point
+at-start column row x y d h = omega arith
+
+not-at-start : (column row x y d : ℕ) → 4 * (512 * y + x) + d ≢ 4 * (512 * row + column) → edge (point x y) d ≢ edge (point column row) 0
+unfolding edge point
+not-at-start column row x y d n h = n (omega arith)
+
+module _ {side r : ℕ} (column row : ℕ) {map₀ out₀ : List ℕ} (ready : Ready side r (edge (point column row) 0) map₀ out₀) where
+  pub walking-from-start : column < 512 → Walking side r (edge (point column row) 0) map₀ out₀ map₀ out₀ 0 column row 0
+  walking-from-start h = record { x-low = h; low = omega arith; before = 4; due = omega arith; going = begin ready }
+
+  pub start-low : column < 512 → Way column row 0
+  start-low h = way (mapAt side map₀) (at-margin side map₀ (ready .square .small)) r column row 0 h (omega arith) (ready .on-region)
+
+  module _ {map out : List ℕ} {used x y d : ℕ} (w : Walking side r (edge (point column row) 0) map₀ out₀ map out used x y d) where
+    pub turned : {map′ : List ℕ} {x′ y′ d′ : ℕ} → Gone side r map x y d map′ x′ y′ d′
+        → Turned side r column row map₀ out₀ map′ (set out used (point x y)) (used + 1) x y d x′ y′ d′
+    unfolding leftAfter
+    turned {map′} {x′} {y′} {d′} gone =
+        let t : Through ready map′ (set out used (point x y)) (used + 1) (digit (edge (point x y) d)) (edge (point x y) d) (edge (point x′ y′) d′) =
+        through ready (subst (λ m. Straight side r m map′ (edge (point x′ y′) d′) map (edge (point x y) d)) (w .going .same-map) (gone .straight)) refl
+        (subst (λ p. Going side r (edge (point column row) 0) map₀ out₀ map (set out used p) (used + 1) (digit (edge (point x y) d)) (edge (point x y) d))
+        (tail-edge (point x y) d (w .low)) (push ready (w .going) (corner-due ready w))) in
+        record {
+          low = omega (arith, gone .x-low, gone .y-low, gone .low);
+          long = t .passed .long;
+          wide = t .passed .wide;
+          ends = λ h. finish ready (t .passed) (at-start column row x′ y′ d′ h);
+          again = λ n. record {
+            x-low = omega (arith, gone .x-low);
+            low = gone .low;
+            before = digit (edge (point x y) d);
+            due = λ h. t .turned (h ∙ sym (digit-edge (point x′ y′) d′ (gone .low)));
+            going = again ready (t .passed) (not-at-start column row x′ y′ d′ n);
+          };
+          shorter = λ n. t .shorter (not-at-start column row x′ y′ d′ n);
         }

@@ -1,6 +1,6 @@
 -- From the walk in the code's numbers to the cycle of the definitions: the promise of writing one cycle.
 use mathlib.Core.Path.{_≡_, sym, ap, ap₂, _∙_, subst, subst₂}
-use mathlib.Core.Logic.{_⊎_, inl, inr, _↔_}
+use mathlib.Core.Logic.{_≢_, _⊎_, inl, inr, _↔_}
 use mathlib.Core.List.{List}
 use Prim.Native.Nat.{ℕ, suc, _+_, _*_, _/_, _%_, _^_, _≤_, _<_}
 use native.Mathlib.Omega.{arith}
@@ -13,16 +13,18 @@ use Rattle.location.specs.Interleaving.{column-of-code, row-of-code}
 use Rattle.location.specs.Levels.{sideOf, side-is-power}
 use Rattle.quadtree.specs.Raster.{place}
 use Rattle.quadtree.specs.Orders.{place-of-code, code-of-place}
-use Rattle.lattice.specs.Directions.{point, xOf, yOf, edge, tail}
-use Rattle.lattice.specs.Walks.{corners}
+use Rattle.lattice.specs.Directions.{point, xOf, yOf, edge, tail, digit}
+use Rattle.lattice.specs.Walks.{lastOf, corners}
 use Rattle.orbits.specs.Members.{In}
 use Rattle.grid.specs.Map.{regionAt}
-use Rattle.grid.specs.Steps.{Edge}
+use Rattle.grid.specs.Margins.{Margin}
+use Rattle.grid.specs.Steps.{Edge, step}
+use Rattle.grid.specs.Undoing.{back, back-step}
 use Rattle.grid.specs.Cycles.{cycleFrom, cornerOf, northSide, cycle, codeRight}
 use Rattle.grid.specs.North.{side-small, corner-x, corner-y, north-tail, north-digit, Eastward, eastward}
 use Rattle.grid.specs.Returning.{ring}
 use Rattle.grid.specs.Starting.{margin}
-use Rattle.grid.specs.Closing.{corners-from-start}
+use Rattle.grid.specs.Closing.{others, Last, last-edge, start-turns, corners-from-start}
 use Rattle.tracing.specs.Mapped.{numsOf, Marked, entry-of-pixel, same-nums}
 use Rattle.tracing.specs.Promise.{StartsHere, CycleWritten}
 use Rattle.tracing.specs.Look.{mapAt, Square, row-small, map-is-region}
@@ -42,45 +44,63 @@ module _ {n x y : ℕ} {map out : List ℕ} (h : StartsHere n map out x y) where
   same-map : mapAt (2 ^ n) map ≡ regionAt n (numsOf n map)
   same-map = map-is-region n map (h .mapped)
 
-  north-here : northSide n (code n x y) ≡ edge (512 * y + x) 0
-  unfolding northSide cornerOf point
-  north-here = ap₂ (λ a b. edge (512 * b + a) 0) (column-of-code n x y (h .x-inside)) (row-of-code n x y (h .y-inside))
+  north-here : northSide n (code n x y) ≡ edge (point x y) 0
+  unfolding northSide cornerOf
+  north-here = ap₂ (λ a b. edge (point a b) 0) (column-of-code n x y (h .x-inside)) (row-of-code n x y (h .y-inside))
 
   region-here : getD map (y * 2 ^ n + x) 0 % 131072 ≡ suc (getD (numsOf n map) (code n x y) 0)
   region-here = entry-of-pixel n map x y (h .mapped) (h .x-inside) (h .y-inside)
 
-  its-corners : cornersFrom (mapAt (2 ^ n) map) (edge (512 * y + x) 0) ≡ corners (cycle n (numsOf n map) (code n x y))
+  its-corners : cornersFrom (mapAt (2 ^ n) map) (edge (point x y) 0) ≡ corners (cycle n (numsOf n map) (code n x y))
   unfolding cornersFrom
   its-corners =
       ap₂ cornersFrom same-map (sym north-here)
       ∙ sym (corners-from-start n (numsOf n map) (h .small) (code n x y) (h .starts))
 
-  its-edges : cycleFrom (mapAt (2 ^ n) map) (edge (512 * y + x) 0) ≡ cycle n (numsOf n map) (code n x y)
+  its-edges : cycleFrom (mapAt (2 ^ n) map) (edge (point x y) 0) ≡ cycle n (numsOf n map) (code n x y)
   unfolding cycle
   its-edges = ap₂ cycleFrom same-map (sym north-here)
 
   square : Square (2 ^ n) map
   square = record { small = side-small n (h .small); room = omega (arith, h .mapped .long, square-of-side n) }
 
-  first-edge : Edge (mapAt (2 ^ n) map) (getD map (y * 2 ^ n + x) 0 % 131072) (edge (512 * y + x) 0)
+  first-edge : Edge (mapAt (2 ^ n) map) (getD map (y * 2 ^ n + x) 0 % 131072) (edge (point x y) 0)
   first-edge =
-      subst (λ m. Edge m (getD map (y * 2 ^ n + x) 0 % 131072) (edge (512 * y + x) 0)) (sym same-map)
+      subst (λ m. Edge m (getD map (y * 2 ^ n + x) 0 % 131072) (edge (point x y) 0)) (sym same-map)
       (subst₂ (λ r e. Edge (regionAt n (numsOf n map)) r e) (sym region-here) north-here (h .starts .north))
 
+  -- The start turns: a step leads to it from the last edge alone.
+  its-corner : (e : ℕ) → Edge (regionAt n (numsOf n map)) (suc (getD (numsOf n map) (code n x y) 0)) e → step (regionAt n (numsOf n map)) e ≡ northSide n (code n x y)
+      → digit e ≢ digit (northSide n (code n x y))
+  its-corner e k q t =
+      let m : ℕ → ℕ → ℕ = regionAt n (numsOf n map) in
+      let r : ℕ = suc (getD (numsOf n map) (code n x y) 0) in
+      let s : ℕ = northSide n (code n x y) in
+      let g : Margin m = margin n (numsOf n map) (h .small) in
+      let l : Last m s = last-edge m g r s (h .starts .north) in
+      let z : Edge m r (lastOf s (others m s)) = ring m g r s (h .starts .north) .edges (lastOf s (others m s)) (l .on-cycle) in
+      let same : e ≡ lastOf s (others m s) = sym (back-step m g r e k) ∙ ap (back m) (q ∙ sym (l .leads)) ∙ back-step m g r (lastOf s (others m s)) z in
+      start-turns n (numsOf n map) (h .small) (code n x y) (h .starts) (ap digit (sym same) ∙ t)
+
   -- What the walk asks.
-  pub ready-here : Ready (2 ^ n) (getD map (y * 2 ^ n + x) 0 % 131072) (edge (512 * y + x) 0) map out
-  ready-here = record { square = square; on-region = first-edge; room = omega (arith, ap length its-corners, h .room) }
+  pub ready-here : Ready (2 ^ n) (getD map (y * 2 ^ n + x) 0 % 131072) (edge (point x y) 0) map out
+  ready-here = record {
+    square = square;
+    on-region = first-edge;
+    room = omega (arith, ap length its-corners, h .room);
+    corner = λ e k q t. its-corner e (subst₂ (λ m r. Edge m r e) same-map region-here k) (ap (λ m. step m e) (sym same-map) ∙ q ∙ sym north-here) (t ∙ ap digit (sym north-here));
+  }
 
   -- The cycle keeps to the map.
   held-here : Held (2 ^ n) (getD map (y * 2 ^ n + x) 0 % 131072) (2 ^ n * 2 ^ n) (cycle n (numsOf n map) (code n x y)) map
   unfolding cycle
   held-here =
-      held-edges square (edge (512 * y + x) 0) (cycle n (numsOf n map) (code n x y)) first-edge
+      held-edges square (edge (point x y) 0) (cycle n (numsOf n map) (code n x y)) first-edge
       (λ e i. subst₂ (λ m r. Edge m r e) (sym same-map) (sym region-here)
       (ring (regionAt n (numsOf n map)) (margin n (numsOf n map) (h .small)) (suc (getD (numsOf n map) (code n x y) 0)) (northSide n (code n x y)) (h .starts .north) .edges e i))
 
   -- What the walk leaves is the promise.
-  module _ {map′ out′ : List ℕ} {k : ℕ} (w : Walked (2 ^ n) (getD map (y * 2 ^ n + x) 0 % 131072) (edge (512 * y + x) 0) map out map′ out′ k) where
+  module _ {map′ out′ : List ℕ} {k : ℕ} (w : Walked (2 ^ n) (getD map (y * 2 ^ n + x) 0 % 131072) (edge (point x y) 0) map out map′ out′ k) where
     its-marks : map′ ≡ marks (2 ^ n) (getD map (y * 2 ^ n + x) 0 % 131072) (cycle n (numsOf n map) (code n x y)) map
     its-marks = w .marked ∙ ap (λ es. marks (2 ^ n) (getD map (y * 2 ^ n + x) 0 % 131072) es map) its-edges
 
@@ -159,9 +179,9 @@ module _ {n x y : ℕ} {map out : List ℕ} (h : StartsHere n map out x y) where
           y-low = d;
         }
 
-    pub ready-to-walk : Ready side (getD map (y * side + x) 0 % 131072) (edge (512 * y + x) 0) map out
-    ready-to-walk = subst (λ s. Ready s (getD map (y * s + x) 0 % 131072) (edge (512 * y + x) 0) map out) (sym side-here) ready-here
+    pub ready-to-walk : Ready side (getD map (y * side + x) 0 % 131072) (edge (point x y) 0) map out
+    ready-to-walk = subst (λ s. Ready s (getD map (y * s + x) 0 % 131072) (edge (point x y) 0) map out) (sym side-here) ready-here
 
-    pub walk-is-cycle : {map′ out′ : List ℕ} {k : ℕ} → Walked side (getD map (y * side + x) 0 % 131072) (edge (512 * y + x) 0) map out map′ out′ k
+    pub walk-is-cycle : {map′ out′ : List ℕ} {k : ℕ} → Walked side (getD map (y * side + x) 0 % 131072) (edge (point x y) 0) map out map′ out′ k
         → CycleWritten n map out (code n x y) map′ out′ k
-    walk-is-cycle {map′} {out′} {k} w = cycle-written (subst (λ s. Walked s (getD map (y * s + x) 0 % 131072) (edge (512 * y + x) 0) map out map′ out′ k) side-here w)
+    walk-is-cycle {map′} {out′} {k} w = cycle-written (subst (λ s. Walked s (getD map (y * s + x) 0 % 131072) (edge (point x y) 0) map out map′ out′ k) side-here w)

@@ -1,8 +1,9 @@
 // The outlines of all regions of a block list: a map of region numbers, and a walk along each cycle that writes its corners.
 use crate::listing::Counts;
 ghost use mathlib.Core.Path.{_≡_};
+ghost use Prim.Native.Nat.{_≤_};
 ghost use Rattle.tracing.specs.Outlining.{OutlinesAsked, OutlinesTold};
-ghost use Rattle.tracing.specs.Tracing.{lent, tracingNumber, Tracing};
+ghost use Rattle.tracing.specs.Tracing.{lent, tooShort, Tracing};
 
 mod chains;
 mod cycle;
@@ -18,44 +19,49 @@ pub struct Traced {
     pub corners: u32,
 }
 
-// The number of a block list and of the lists lent with it: causes 1 to 7, then 8.
-fn fault(
+// The answer of a refusal.
+fn refused(number: u32) -> Traced
+    ensures { λ r. ⌜ r ≡ record { number = number; regions = 0; cycles = 0; corners = 0 } ⌝ }
+{
+    Traced {
+        number: number,
+        regions: 0,
+        cycles: 0,
+        corners: 0,
+    }
+}
+
+// Whether one of the lent lists is shorter than its need, for `count` blocks: cause 8.
+fn short(
     n: u32,
-    codes: &[u32],
-    levels: &[u8],
-    colours: &[u8],
+    count: usize,
     labels: &[u32],
     work: &[u32],
     owners: &[u32],
     ends: &[u32],
     corners: &[u32],
-) -> u32
-    ensures { λ r. ⌜ r ≡ tracingNumber n (now (codes .entry)) (now (levels .entry)) (now (colours .entry)) (lent (now (labels .entry)) (now (work .entry)) (now (owners .entry)) (now (ends .entry)) (now (corners .entry))) ⌝ }
+) -> bool
+    requires { ⌜ n ≤ 8 ⌝ }
+    ensures { λ r. ⌜ r ≡ tooShort n count (lent (now (labels .entry)) (now (work .entry)) (now (owners .entry)) (now (ends .entry)) (now (corners .entry))) ⌝ }
 {
-    let fault = blocks::check(n, codes, levels, colours);
-    if fault != 0 {
-        return fault;
-    }
     let whole = location::pixels(n);
-    if labels.len() < codes.len() {
-        return 8;
+    if labels.len() < count {
+        return true;
     }
     if work.len() < 2 * whole {
-        return 8;
+        return true;
     }
     if owners.len() < whole {
-        return 8;
+        return true;
     }
     if ends.len() < whole {
-        return 8;
+        return true;
     }
-    if corners.len() < 4 * whole {
-        return 8;
-    }
-    0
+    corners.len() < 4 * whole
 }
 
-// Lists the outlines of all regions of labelled blocks. The work list holds the chains of blocks and the map meanwhile.
+// Lists the outlines of all regions of labelled blocks. The work list holds the map and behind it the links of the blocks meanwhile; only
+// these entries are cleared.
 fn outline(
     n: u32,
     codes: &[u32],
@@ -73,11 +79,12 @@ fn outline(
     chains::link(whole, codes.len(), labels, work);
     map::fill_map(n, codes, levels, labels, work);
     let counts = listing::list_all(n, codes, levels, labels, work, owners, ends, corners);
-    map::fill_run(work, 0, 2 * whole, 0);
+    map::fill_run(work, 0, whole + codes.len(), 0);
     counts
 }
 
-// The outlines of all regions of a block list: labels, owners, ends and corners, and how many of each there are.
+// The outlines of all regions of a block list: labels, owners, ends and corners, and how many of each there are. The numbering checks the
+// block list; where a lent list is too short nothing is numbered, and the check tells whether a cause before 8 applies.
 pub fn trace(
     n: u32,
     codes: &[u32],
@@ -91,26 +98,20 @@ pub fn trace(
 ) -> Traced
     ensures { λ r. ⌜ Tracing n (now (codes .entry)) (now (levels .entry)) (now (colours .entry)) (lent (now (labels .entry)) (now (work .entry)) (now (owners .entry)) (now (ends .entry)) (now (corners .entry))) (lent (now (labels .exit)) (now (work .exit)) (now (owners .exit)) (now (ends .exit)) (now (corners .exit))) r ⌝ }
 {
-    let number = fault(
-        n,
-        codes,
-        levels,
-        colours,
-        labels,
-        work,
-        owners,
-        ends,
-        corners,
-    );
-    if number != 0 {
-        return Traced {
-            number: number,
-            regions: 0,
-            cycles: 0,
-            corners: 0,
-        };
+    if 8 < n {
+        return refused(1);
+    }
+    if short(n, codes.len(), labels, work, owners, ends, corners) {
+        let fault = blocks::check(n, codes, levels, colours);
+        if fault != 0 {
+            return refused(fault);
+        }
+        return refused(8);
     }
     let numbered = regions::number(n, codes, levels, colours, labels, work);
+    if numbered.number != 0 {
+        return refused(numbered.number);
+    }
     let counts = outline(n, codes, levels, labels, work, owners, ends, corners);
     Traced {
         number: 0,

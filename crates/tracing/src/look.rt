@@ -1,11 +1,13 @@
 // The map of regions seen from a lattice point, and the rule of steps. The map is a list of rows without a margin.
 ghost use mathlib.Core.Path.{_≡_};
-ghost use Prim.Native.Nat.{_+_, _/_, _%_, _≤_, _<_};
-ghost use Rattle.lattice.specs.Directions.{xOf, yOf, move};
+ghost use mathlib.Core.Bool.{cond};
+ghost use Prim.Native.Nat.{_<_};
+ghost use lib.Dec.{eqb};
+ghost use Rattle.lattice.specs.Directions.{point};
 ghost use Rattle.grid.specs.Map.{around};
 ghost use Rattle.grid.specs.Steps.{turn};
 ghost use Rattle.tracing.specs.Look.{mapAt, Square, columnAt, rowAt};
-ghost use Rattle.tracing.specs.Rule.{Way};
+ghost use Rattle.tracing.specs.Rule.{moveX, moveY};
 
 // The map with a margin at (x, y): 0 outside the image.
 fn look(map: &[u32], side: u32, x: u32, y: u32) -> u32
@@ -47,42 +49,61 @@ fn row_at(y: u32, d: u8) -> u32
     }
 }
 
-// The pixel of the digit d around the point p.
-fn around(map: &[u32], side: u32, p: u32, d: u8) -> u32
-    requires { ⌜ Square side (now map) ⌝ }
-    ensures { λ r. ⌜ r ≡ around (mapAt side (now (map .entry))) p d ⌝ }
+// The pixel of the digit d around the point (x, y).
+fn around(map: &[u32], side: u32, x: u32, y: u32, d: u8) -> u32
+    requires { ⌜ Square side (now map) × (x < 512) × (y < 512) ⌝ }
+    ensures { λ r. ⌜ r ≡ around (mapAt side (now (map .entry))) (point x y) d ⌝ }
 {
-    let x = column_at(p % 512, d);
-    let y = row_at(p / 512, d);
-    look(map, side, x, y)
+    let column = column_at(x, d);
+    let row = row_at(y, d);
+    look(map, side, column, row)
 }
 
-// The direction after d at the point p, in the region r: right, straight or left.
-pub(crate) fn next_digit(map: &[u32], side: u32, r: u32, p: u32, d: u8) -> u8
-    requires { ⌜ Square side (now map) × (d < 4) ⌝ }
-    ensures { λ o. ⌜ (o ≡ turn (mapAt side (now (map .entry))) r p d) × (o < 4) ⌝ }
+// The digit `inside` where the value seen is the region r, else the digit `outside`.
+fn choose(seen: u32, r: u32, inside: u8, outside: u8) -> u8
+    ensures { λ o. ⌜ o ≡ cond (eqb seen r) inside outside ⌝ }
 {
-    let ahead = around(map, side, p, d);
-    if ahead != r {
-        return lattice::right(d);
-    }
+    if seen == r { inside } else { outside }
+}
+
+// The direction after d at the point (x, y), in the region r: right, straight or left. The pixel ahead on the right tells what to do
+// where the one ahead on the left is out of the region and where it is in it; that one is not looked at if both say right.
+pub(crate) fn next_digit(map: &[u32], side: u32, r: u32, x: u32, y: u32, d: u8) -> u8
+    requires { ⌜ Square side (now map) × (x < 512) × (y < 512) × (d < 4) ⌝ }
+    ensures { λ o. ⌜ (o ≡ turn (mapAt side (now (map .entry))) r (point x y) d) × (o < 4) ⌝ }
+{
+    let ahead = around(map, side, x, y, d);
+    let right = lattice::right(d);
     let left = (d + 1) % 4;
-    let beside = around(map, side, p, left);
-    if beside != r {
-        return d;
+    let left_out = choose(ahead, r, d, right);
+    let left_in = choose(ahead, r, left, right);
+    if left_out == right && left_in == right {
+        return right;
     }
-    left
+    let beside = around(map, side, x, y, left);
+    choose(beside, r, left_in, left_out)
 }
 
-// The point one unit on from p with the digit d.
-pub(crate) fn next_point(p: u32, d: u8) -> u32
-    requires { ⌜ Way p d ⌝ }
-    ensures { λ r. ⌜ r ≡ move d p ⌝ }
+// The column and the row of the point one unit on from (x, y) with the digit d.
+pub(crate) fn next_x(x: u32, d: u8) -> u32
+    requires { ⌜ (d ≡ 2 → 0 < x) × (x < 512) ⌝ }
+    ensures { λ r. ⌜ r ≡ moveX x d ⌝ }
 {
     match d {
-        0 => p + 1,
-        1 => p - 512,
-        2 => p - 1,
-        _ => p + 512,
+        0 => x + 1,
+        2 => x - 1,
+        _ => x,
+    }
+}
+
+pub(crate) fn next_y(y: u32, d: u8) -> u32
+    requires { ⌜ (d ≡ 1 → 0 < y) × (y < 512) ⌝ }
+    ensures { λ r. ⌜ r ≡ moveY y d ⌝ }
+{
+    match d {
+        0 => y,
+        1 => y - 1,
+        2 => y,
+        _ => y + 1,
     }
 }

@@ -22,11 +22,15 @@ pub(crate) fn fill_run(map: &mut [u32], from: usize, s: usize, v: u32)
     }
 }
 
-// Gives the square of s rows of s entries at the place `at`, in rows of w, the value v.
+// Gives the square of s rows of s entries at the place `at`, in rows of w, the value v. Most blocks of a busy picture are one pixel.
 fn fill_square(map: &mut [u32], w: usize, at: usize, s: usize, v: u32)
     requires { ⌜ (w ≤ 256) × RowsFit (length (now map)) w at s s ⌝ }
     ensures { λ _. ⌜ RowsFilled w at s s v (now (map .entry)) (now (map .exit)) ⌝ }
 {
+    if s == 1 {
+        map[at] = v;
+        return;
+    }
     let mut from = at;
     let mut y: usize = 0;
     while y < s {

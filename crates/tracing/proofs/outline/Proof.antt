@@ -1,5 +1,6 @@
--- `outline` meets its contract: the chains stand behind the map, the listing leaves them as they were, and both are cleared.
-use Rattle.tracing.specs.Outlining.{linkable, fillable, going, whole-low, clear-room, told}
+-- `outline` meets its contract: the chains stand behind the map, the listing leaves them as they were, and both are cleared; nothing else
+-- of the work list was written.
+use Rattle.tracing.specs.Outlining.{linkable, fillable, going, used-low, clear-room, told}
 use native.Mathlib.Omega.{arith}
 use borrow.Author.Needs.{needs}
 use Rattle.tracing.proofs.outline.Statement.{statement}
@@ -17,11 +18,11 @@ fill-map-requires c κs = fillable (c .before .before .before .before .before .b
 list-all-requires : tie.Need-list-all-requires
 list-all-requires c κs = going (c .before .before .before .before .before .before .before .before .before .before .before .before .before .before .before .before .before .before .before .before .pre) (c .before .before .before .before .before .before .before .before .before .before .before .before .pixels .ensures) (c .before .before .before .before .before .before .before .before .before .before .link .ensures) (c .before .before .before .before .before .before .fill-map .ensures)
 
-mul-fill-run : tie.Need-mul-fill-run
-mul-fill-run c = omega (arith, whole-low (c .before .before .before .before .before .before .before .before .before .before .before .before .before .before .before .before .before .before .before .before .before .before .before .before .before .before .before .before .before .before .pre) (c .before .before .before .before .before .before .before .before .before .before .before .before .before .before .before .before .before .before .before .before .before .before .pixels .ensures))
+add-fill-run : tie.Need-add-fill-run
+add-fill-run c = omega (arith, used-low (c .before .before .before .before .before .before .before .before .before .before .before .before .before .before .before .before .before .before .before .before .before .before .before .before .before .before .before .before .before .before .pre) (c .before .before .before .before .before .before .before .before .before .before .before .before .before .before .before .before .before .before .before .before .before .before .pixels .ensures))
 
 fill-run-requires : tie.Need-fill-run-requires
-fill-run-requires c κs = clear-room (c .before .before .before .before .before .before .before .before .before .before .before .before .before .before .before .before .before .before .before .before .before .before .before .before .before .before .before .before .before .before .pre) (c .before .before .before .before .before .before .before .before .before .before .before .before .before .before .before .before .before .before .before .before .before .before .pixels .ensures) (c .before .before .before .before .before .before .before .before .before .before .before .before .before .before .before .before .before .before .before .before .link .ensures) (c .before .before .before .before .before .before .before .before .before .before .before .before .before .before .before .before .fill-map .ensures) (c .before .before .before .before .before .before .before .before .before .list-all .ensures)
+fill-run-requires c κs = omega (arith, clear-room (c .before .before .before .before .before .before .before .before .before .before .before .before .before .before .before .before .before .before .before .before .before .before .before .before .before .before .before .before .before .before .pre) (c .before .before .before .before .before .before .before .before .before .before .before .before .before .before .before .before .before .before .before .before .before .before .pixels .ensures) (c .before .before .before .before .before .before .before .before .before .before .before .before .before .before .before .before .before .before .before .before .link .ensures) (c .before .before .before .before .before .before .before .before .before .before .before .before .before .before .before .before .fill-map .ensures) (c .before .before .before .before .before .before .before .before .before .list-all .ensures))
 
 same-length : tie.Need-same-length
 same-length c = search needs
@@ -46,7 +47,7 @@ outline-spec =
     link-requires
     fill-map-requires
     list-all-requires
-    mul-fill-run
+    add-fill-run
     fill-run-requires
     same-length
     same-length-2

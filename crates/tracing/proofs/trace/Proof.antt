@@ -1,17 +1,32 @@
 -- `trace` meets its contract: a refusal leaves all lists; else the numbering leaves the labels and a blank work list, and the listing adds
--- the cycles.
-use Rattle.tracing.specs.Accepting.{outlines-asked, cycles-small, corners-small, traced}
-use Rattle.tracing.specs.Tracing.{Lent, lent, refused}
+-- the cycles. The check runs once: in the numbering, or by itself where a list is too short.
 use native.Mathlib.Omega.{arith}
+use Rattle.tracing.specs.Accepting.{numbering-refused, outlines-asked, cycles-small, corners-small, traced}
+use Rattle.tracing.specs.Tracing.{Lent, lent, large-refused, fault-refused, short-refused}
 use borrow.Author.Needs.{needs}
 use Rattle.tracing.proofs.trace.Statement.{statement}
 use Rattle.tracing.proofs.trace.Tie as tie
 
-abbrev lists : tie.Start → Lent
-lists c = lent (c .args .labels .now) (c .args .work .now) (c .args .owners .now) (c .args .ends .now) (c .args .corners .now)
+abbrev entry : tie.After-short → tie.Start
+entry c = c .before .before .before .before .before .before .before .before .before .before .before .before .before .before .before
 
-fault-requires : tie.Need-fault-requires
-fault-requires c κs = search needs
+abbrev lists : tie.Start → Lent
+lists s = lent (s .args .labels .now) (s .args .work .now) (s .args .owners .now) (s .args .ends .now) (s .args .corners .now)
+
+refused-requires : tie.Need-refused-requires
+refused-requires c κs = search needs
+
+returns : tie.Need-returns
+returns c = let s = c .before .before .before .before .before .before .before .before .before .before in rw (c .refused .ensures) (large-refused (s .args .n) (s .args .codes .now) (s .args .levels .now) (s .args .colours .now) (lists s) (c .before .if1 .taken))
+
+short-requires : tie.Need-short-requires
+short-requires c κs = search needs
+
+check-requires : tie.Need-check-requires
+check-requires c κs = search needs
+
+refused-requires-2 : tie.Need-refused-requires-2
+refused-requires-2 c κs = search needs
 
 same-length : tie.Need-same-length
 same-length c = search needs
@@ -28,20 +43,13 @@ same-length-4 c = search needs
 same-length-5 : tie.Need-same-length-5
 same-length-5 c = search needs
 
-returns : tie.Need-returns
-returns c = let s = c .before .before .before .before .before .before .before .before .before .before .before .before .before .before .before in refused (s .args .n) (s .args .codes .now) (s .args .levels .now) (s .args .colours .now) (lists s) (c .if1 .taken) (c .before .fault .ensures)
+returns-2 : tie.Need-returns-2
+returns-2 c =
+    let s = entry (c .before .before .before .before) in
+    rw (c .refused2 .ensures) (fault-refused (s .args .n) (s .args .codes .now) (s .args .levels .now) (s .args .colours .now) (lists s) (c .before .before .check .ensures) (c .before .if3 .taken))
 
-number-requires : tie.Need-number-requires
-number-requires c κs = search needs
-
-outline-requires : tie.Need-outline-requires
-outline-requires c κs = let s = c .before .before .before .before .before .before .before .before .before .before .before .before .before .before .before .before .before .before .before .before .before .before .before .before .before .before .before in outlines-asked (s .args .n) (s .args .codes .now) (s .args .levels .now) (s .args .colours .now) (lists s) (c .before .before .before .before .before .before .before .before .before .before .before .before .before .fault .ensures) (c .before .before .before .before .before .before .before .before .before .before .before .before .if1 .left) (c .before .before .before .before .before .before .before .before .before .number .ensures)
-
-cast-t38 : tie.Need-cast-t38
-cast-t38 c = let s = c .before .before .before .before .before .before .before .before .before .before .before .before .before .before .before .before .before .before .before .before .before .before .before .before .before .before .before .before .before .before .before .before .before .before .before .before .before in omega (arith, cycles-small (s .args .n) (s .args .codes .now) (s .args .levels .now) (s .args .colours .now) (lists s) (c .before .before .before .before .before .before .before .before .before .before .before .before .before .before .before .before .before .before .before .before .before .before .before .fault .ensures) (c .before .before .before .before .before .before .before .before .before .before .before .before .before .before .before .before .before .before .before .before .before .before .if1 .left) (c .before .before .before .before .before .before .before .before .before .before .before .before .before .before .before .before .before .before .before .number .ensures) (c .before .before .before .before .before .before .before .before .before .outline .ensures))
-
-cast-t39 : tie.Need-cast-t39
-cast-t39 c = let s = c .before .before .before .before .before .before .before .before .before .before .before .before .before .before .before .before .before .before .before .before .before .before .before .before .before .before .before .before .before .before .before .before .before .before .before .before .before .before in omega (arith, corners-small (s .args .n) (s .args .codes .now) (s .args .levels .now) (s .args .colours .now) (lists s) (c .before .before .before .before .before .before .before .before .before .before .before .before .before .before .before .before .before .before .before .before .before .before .before .before .fault .ensures) (c .before .before .before .before .before .before .before .before .before .before .before .before .before .before .before .before .before .before .before .before .before .before .before .if1 .left) (c .before .before .before .before .before .before .before .before .before .before .before .before .before .before .before .before .before .before .before .before .number .ensures) (c .before .before .before .before .before .before .before .before .before .before .outline .ensures))
+refused-requires-3 : tie.Need-refused-requires-3
+refused-requires-3 c κs = search needs
 
 same-length-6 : tie.Need-same-length-6
 same-length-6 c = search needs
@@ -58,27 +66,115 @@ same-length-9 c = search needs
 same-length-10 : tie.Need-same-length-10
 same-length-10 c = search needs
 
-returns-2 : tie.Need-returns-2
-returns-2 c = let s = c .before .before .before .before .before .before .before .before .before .before .before .before .before .before .before .before .before .before .before .before .before .before .before .before .before .before .before .before .before .before .before .before .before .before .before .before .before .before in traced (s .args .n) (s .args .codes .now) (s .args .levels .now) (s .args .colours .now) (lists s) (c .before .before .before .before .before .before .before .before .before .before .before .before .before .before .before .before .before .before .before .before .before .before .before .before .fault .ensures) (c .before .before .before .before .before .before .before .before .before .before .before .before .before .before .before .before .before .before .before .before .before .before .before .if1 .left) (c .before .before .before .before .before .before .before .before .before .before .before .before .before .before .before .before .before .before .before .before .number .ensures) (c .before .before .before .before .before .before .before .before .before .before .outline .ensures)
+returns-3 : tie.Need-returns-3
+returns-3 c =
+    let s = entry (c .before .before .before .before) in
+    rw (c .refused3 .ensures)
+    (short-refused (s .args .n) (s .args .codes .now) (s .args .levels .now) (s .args .colours .now) (lists s) (c .before .before .check .ensures) (c .before .if3 .left) (c .before .before .before .before .short .ensures) (c .before .before .before .if2 .taken))
+
+number-requires : tie.Need-number-requires
+number-requires c κs = search needs
+
+refused-requires-4 : tie.Need-refused-requires-4
+refused-requires-4 c κs = search needs
+
+same-length-11 : tie.Need-same-length-11
+same-length-11 c = search needs
+
+same-length-12 : tie.Need-same-length-12
+same-length-12 c = search needs
+
+same-length-13 : tie.Need-same-length-13
+same-length-13 c = search needs
+
+same-length-14 : tie.Need-same-length-14
+same-length-14 c = search needs
+
+same-length-15 : tie.Need-same-length-15
+same-length-15 c = search needs
+
+returns-4 : tie.Need-returns-4
+returns-4 c =
+    let d = c .before .before .before .before .before .before .before in
+    let s = entry (d .before .before .before .before) in
+    rw (c .refused4 .ensures)
+    (numbering-refused (s .args .n) (s .args .codes .now) (s .args .levels .now) (s .args .colours .now) (lists s) (d .before .before .before .before .short .ensures) (d .before .before .before .if2 .left) (d .number .ensures) (c .before .if4 .taken))
+
+outline-requires : tie.Need-outline-requires
+outline-requires c κs =
+    let d = c .before .before .before .before .before .before .before .before .before .before .before in
+    let s = entry (d .before .before .before .before) in
+    outlines-asked (s .args .n) (s .args .codes .now) (s .args .levels .now) (s .args .colours .now) (lists s) (d .before .before .before .before .short .ensures) (d .before .before .before .if2 .left) (d .number .ensures) (c .before .before .before .before .before .if4 .left)
+
+cast-t41 : tie.Need-cast-t41
+cast-t41 c =
+    let d = c .before .before .before .before .before .before .before .before .before .before .before .before .before .before .before .before .before .before .before .before .before in
+    let s = entry (d .before .before .before .before) in
+    omega (arith, cycles-small (s .args .n) (s .args .codes .now) (s .args .levels .now) (s .args .colours .now) (lists s) (d .before .before .before .before .short .ensures) (d .before .before .before .if2 .left) (d .number .ensures) (c .before .before .before .before .before .before .before .before .before .before .before .before .before .before .before .if4 .left) (c .before .before .before .before .before .before .before .before .before .outline .ensures))
+
+cast-t42 : tie.Need-cast-t42
+cast-t42 c =
+    let d = c .before .before .before .before .before .before .before .before .before .before .before .before .before .before .before .before .before .before .before .before .before .before in
+    let s = entry (d .before .before .before .before) in
+    omega (arith, corners-small (s .args .n) (s .args .codes .now) (s .args .levels .now) (s .args .colours .now) (lists s) (d .before .before .before .before .short .ensures) (d .before .before .before .if2 .left) (d .number .ensures) (c .before .before .before .before .before .before .before .before .before .before .before .before .before .before .before .before .if4 .left) (c .before .before .before .before .before .before .before .before .before .before .outline .ensures))
+
+same-length-16 : tie.Need-same-length-16
+same-length-16 c = search needs
+
+same-length-17 : tie.Need-same-length-17
+same-length-17 c = search needs
+
+same-length-18 : tie.Need-same-length-18
+same-length-18 c = search needs
+
+same-length-19 : tie.Need-same-length-19
+same-length-19 c = search needs
+
+same-length-20 : tie.Need-same-length-20
+same-length-20 c = search needs
+
+returns-5 : tie.Need-returns-5
+returns-5 c =
+    let d = c .before .before .before .before .before .before .before .before .before .before .before .before .before .before .before .before .before .before .before .before .before .before in
+    let s = entry (d .before .before .before .before) in
+    traced (s .args .n) (s .args .codes .now) (s .args .levels .now) (s .args .colours .now) (lists s) (d .before .before .before .before .short .ensures) (d .before .before .before .if2 .left) (d .number .ensures) (c .before .before .before .before .before .before .before .before .before .before .before .before .before .before .before .before .if4 .left) (c .before .before .before .before .before .before .before .before .before .before .outline .ensures)
 
 pub trace-spec : {M : Type 1} → statement M
 trace-spec =
     tie.close
     (tie.spec
-    fault-requires
+    refused-requires
+    returns
+    short-requires
+    check-requires
+    refused-requires-2
     same-length
     same-length-2
     same-length-3
     same-length-4
     same-length-5
-    returns
-    number-requires
-    outline-requires
-    cast-t38
-    cast-t39
+    returns-2
+    refused-requires-3
     same-length-6
     same-length-7
     same-length-8
     same-length-9
     same-length-10
-    returns-2)
+    returns-3
+    number-requires
+    refused-requires-4
+    same-length-11
+    same-length-12
+    same-length-13
+    same-length-14
+    same-length-15
+    returns-4
+    outline-requires
+    cast-t41
+    cast-t42
+    same-length-16
+    same-length-17
+    same-length-18
+    same-length-19
+    same-length-20
+    returns-5)

@@ -1,71 +1,92 @@
 -- The loop's invariant: the corners written and those of the edges that are left are all corners of the cycle, and so for the marks.
 -- The measure: the edges that are left.
-use Rattle.lattice.specs.Directions.{edge}
-use Rattle.tracing.specs.Points.{Walking, left, walking-from-start, walking-room, walking-along, walking-way, walking-square, Turned, turned}
+use Prim.Native.Nat.{_+_}
 use native.Mathlib.Omega.{arith}
+use lib.ListN.{set}
+use Rattle.lattice.specs.Directions.{point, edge}
+use Rattle.tracing.specs.Points.{way-at}
+use Rattle.tracing.specs.Walking.{Walking, leftAfter, walking-from-start, start-low, walking-room, walking-at, Turned, turned}
 use borrow.Author.Needs.{needs}
 use Rattle.tracing.proofs.cycle.walk.Statement.{statement}
 use Rattle.tracing.proofs.cycle.walk.Tie as tie
 
 abbrev Inv-loop : tie.InvT-loop
-Inv-loop map₀ side r start corners₀ used₀ before₀ p₀ d₀ map corners used before p d = Walking side r (edge start 0) map₀ corners₀ map corners used before p d
+Inv-loop map₀ side r column row corners₀ used₀ x₀ y₀ d₀ map corners used x y d = Walking side r (edge (point column row) 0) map₀ corners₀ map corners used x y d
 
 abbrev μ-loop : tie.MeasureT-loop
-μ-loop map₀ side r start corners₀ used₀ before₀ p₀ d₀ map corners used before p d = left side (edge start 0) map₀ p d
+μ-loop map₀ side r column row corners₀ used₀ x₀ y₀ d₀ map corners used x y d = leftAfter side (edge (point column row) 0) map₀ x y d
 
 loop-holds : tie.Need-loop-holds Inv-loop μ-loop
-loop-holds c = walking-from-start (c .before .before .args .start) (c .before .before .pre)
+loop-holds c = walking-from-start (c .before .before .args .column) (c .before .before .args .row) (c .before .before .pre .0) (c .before .before .pre .1)
 
-mark-east-requires : tie.Need-mark-east-requires Inv-loop μ-loop
-mark-east-requires c κs = walking-along (c .before .before .before .before .pre) (c .before .loop .inv)
+mul-corners : tie.Need-mul-corners Inv-loop μ-loop
+mul-corners c = let w = way-at (walking-at (c .before .before .before .pre .0) (c .loop .inv)) in omega (arith, w .x-low, w .y-low)
 
-put-corner-requires : tie.Need-put-corner-requires Inv-loop μ-loop
-put-corner-requires c κs = walking-room (c .before .before .before .before .before .before .before .before .pre) (c .before .before .before .before .before .loop .inv)
+add-corners : tie.Need-add-corners Inv-loop μ-loop
+add-corners c = let w = way-at (walking-at (c .before .before .before .pre .0) (c .loop .inv)) in omega (arith, w .x-low, w .y-low)
 
-next-point-requires : tie.Need-next-point-requires Inv-loop μ-loop
-next-point-requires c κs = walking-way (c .before .before .before .before .before .before .before .before .before .before .before .pre) (c .before .before .before .before .before .before .before .before .loop .inv)
+mul-corners-2 : tie.Need-mul-corners-2 Inv-loop μ-loop
+mul-corners-2 c = omega (arith, walking-room (c .before .before .before .pre .0) (c .loop .inv))
 
-next-digit-requires : tie.Need-next-digit-requires Inv-loop μ-loop
-next-digit-requires c κs = (walking-square (c .before .before .before .before .before .before .before .before .before .before .before .before .before .pre) (c .before .before .before .before .before .before .before .before .before .before .loop .inv) (c .before .before .before .before .before .before .before .before .mark-east .ensures), c .before .before .before .before .before .before .before .before .before .before .loop .inv .low)
+slice-write-corners : tie.Need-slice-write-corners Inv-loop μ-loop
+slice-write-corners c = walking-room (c .before .before .before .pre .0) (c .loop .inv)
+
+add-used : tie.Need-add-used Inv-loop μ-loop
+add-used c = omega (arith, walking-room (c .before .before .before .pre .0) (c .loop .inv))
+
+run-requires : tie.Need-run-requires Inv-loop μ-loop
+run-requires c κs = walking-at (c .before .before .before .before .pre .0) (c .before .loop .inv)
 
 -- What a turn of the loop leads to, before the test.
-turn-done : (c : tie.After-next-digit Inv-loop μ-loop) →
-    let m = c .before .before .before .before .before .before .before .before .before in
-    let l = m .before .before .loop in
-    let a = m .before .before .before .before .before .args in
-    Turned (a .side) (a .r) (a .start) (a .map .now) (a .corners .now) (m .mark-east .last .0) (c .before .before .before .before .before .put-corner .last .0) (c .before .before .before .before .before .put-corner .result) (l .p) (l .d)
-    (c .before .before .next-point .result) (c .next-digit .result)
-turn-done c =
-    let m = c .before .before .before .before .before .before .before .before .before in
-    turned (m .before .before .before .before .before .args .start) (m .before .before .before .before .before .pre) (m .before .before .loop .inv)
-    (m .mark-east .ensures) (c .before .before .before .before .before .put-corner .ensures) (c .before .before .next-point .ensures) (c .next-digit .ensures)
+turn-done : (c : tie.After-run Inv-loop μ-loop) →
+    let l = c .before .before .loop in
+    let a = c .before .before .before .before .before .args in
+    Turned (a .side) (a .r) (a .column) (a .row) (a .map .now) (a .corners .now) (c .run .last .0) (set (l .corners) (l .used) (point (l .x) (l .y))) (l .used + 1) (l .x) (l .y) (l .d)
+    (c .run .result .x) (c .run .result .y) (c .run .result .d)
+turn-done c = let b = c .before .before .before .before .before in turned (b .args .column) (b .args .row) (b .pre .0) (c .before .before .loop .inv) (c .run .ensures)
 
 mul-if1 : tie.Need-mul-if1 Inv-loop μ-loop
-mul-if1 c = omega (arith, turn-done c .low)
+mul-if1 c = omega (arith, turn-done (c .before .before) .low)
+
+add-if1 : tie.Need-add-if1 Inv-loop μ-loop
+add-if1 c = omega (arith, turn-done (c .before .before) .low)
+
+mul-if1-2 : tie.Need-mul-if1-2 Inv-loop μ-loop
+mul-if1-2 c = omega (arith, turn-done (c .before .before) .low)
 
 cast-if1 : tie.Need-cast-if1 Inv-loop μ-loop
 cast-if1 c = search needs
 
-add-if1 : tie.Need-add-if1 Inv-loop μ-loop
-add-if1 c = omega (arith, turn-done c .low)
+add-if1-2 : tie.Need-add-if1-2 Inv-loop μ-loop
+add-if1-2 c = omega (arith, turn-done (c .before .before) .low)
 
-mul-if1-2 : tie.Need-mul-if1-2 Inv-loop μ-loop
-mul-if1-2 c = omega (arith, turn-done c .start-low)
+mul-if1-3 : tie.Need-mul-if1-3 Inv-loop μ-loop
+mul-if1-3 c = let b = c .before .before .before .before .before .before .before in let w = start-low (b .args .column) (b .args .row) (b .pre .0) (b .pre .1) in omega (arith, w .x-low, w .y-low)
+
+add-if1-3 : tie.Need-add-if1-3 Inv-loop μ-loop
+add-if1-3 c = let b = c .before .before .before .before .before .before .before in let w = start-low (b .args .column) (b .args .row) (b .pre .0) (b .pre .1) in omega (arith, w .x-low, w .y-low)
+
+mul-if1-4 : tie.Need-mul-if1-4 Inv-loop μ-loop
+mul-if1-4 c = let b = c .before .before .before .before .before .before .before in let w = start-low (b .args .column) (b .args .row) (b .pre .0) (b .pre .1) in omega (arith, w .x-low, w .y-low)
 
 same-length : tie.Need-same-length Inv-loop μ-loop
-same-length c = turn-done (c .before) .long
+same-length c = turn-done (c .before .before .before) .long
 
 same-length-2 : tie.Need-same-length-2 Inv-loop μ-loop
-same-length-2 c = turn-done (c .before) .wide
+unfolding point
+same-length-2 c = turn-done (c .before .before .before) .wide
 
 returns : tie.Need-returns Inv-loop μ-loop
-returns c = turn-done (c .before) .ends (c .if1 .taken)
+unfolding point
+returns c = turn-done (c .before .before .before) .ends (c .if1 .taken)
 
 loop-less : tie.Need-loop-less Inv-loop μ-loop
-loop-less c = turn-done (c .before) .less (c .if1 .left)
+unfolding point
+loop-less c = turn-done (c .before .before .before) .shorter (c .if1 .left)
 
 loop-again : tie.Need-loop-again Inv-loop μ-loop
-loop-again c = turn-done (c .before) .again (c .if1 .left)
+unfolding point
+loop-again c = turn-done (c .before .before .before) .again (c .if1 .left)
 
 pub walk-spec : {M : Type 1} → statement M
 walk-spec =
@@ -74,14 +95,20 @@ walk-spec =
     Inv-loop
     μ-loop
     loop-holds
-    mark-east-requires
-    put-corner-requires
-    next-point-requires
-    next-digit-requires
+    mul-corners
+    add-corners
+    mul-corners-2
+    slice-write-corners
+    add-used
+    run-requires
     mul-if1
-    cast-if1
     add-if1
     mul-if1-2
+    cast-if1
+    add-if1-2
+    mul-if1-3
+    add-if1-3
+    mul-if1-4
     same-length
     same-length-2
     returns

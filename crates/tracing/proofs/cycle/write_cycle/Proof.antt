@@ -26,14 +26,8 @@ mul-r c = let k = numbers (c .before .before .before .pre) (c .side .ensures) in
 slice-read-r : tie.Need-slice-read-r
 slice-read-r c = numbers (c .before .before .before .before .pre) (c .before .side .ensures) .inside
 
-mul-walk : tie.Need-mul-walk
-mul-walk c = let k = numbers (c .before .before .before .before .before .pre) (c .before .before .side .ensures) in omega (arith, k .y-low, k .x-low)
-
-add-walk : tie.Need-add-walk
-add-walk c = let k = numbers (c .before .before .before .before .before .pre) (c .before .before .side .ensures) in omega (arith, k .y-low, k .x-low)
-
 walk-requires : tie.Need-walk-requires
-walk-requires c κs = ready-to-walk (c .before .before .before .before .before .before .pre) (c .before .before .before .side .ensures)
+walk-requires c κs = let b = c .before .before .before .before .before .before .pre in let e = c .before .before .before .side .ensures in (ready-to-walk b e, omega (arith, numbers b e .x-low))
 
 same-length : tie.Need-same-length
 same-length c = search needs
@@ -55,8 +49,6 @@ write-cycle-spec =
     cast-i
     mul-r
     slice-read-r
-    mul-walk
-    add-walk
     walk-requires
     same-length
     same-length-2

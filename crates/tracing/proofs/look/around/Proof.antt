@@ -1,7 +1,7 @@
 -- The pixel's column and row in the map with a margin are those of the definition.
 use mathlib.Core.Path.{ap₂, _∙_}
-use Rattle.lattice.specs.Directions.{xOf, yOf}
-use Rattle.tracing.specs.Look.{mapAt, around-at}
+use Rattle.tracing.specs.Look.{mapAt}
+use Rattle.tracing.specs.Rule.{around-point}
 use borrow.Author.Needs.{needs}
 use Rattle.tracing.proofs.look.around.Statement.{statement}
 use Rattle.tracing.proofs.look.around.Tie as tie
@@ -16,8 +16,10 @@ look-requires : tie.Need-look-requires
 look-requires c κs = search needs
 
 returns : tie.Need-returns
-unfolding xOf yOf
-returns c = let a = c .before .before .before .before .args in c .look .ensures ∙ ap₂ (mapAt (a .side) (a .map .now)) (c .before .before .«column-at» .ensures) (c .before .«row-at» .ensures) ∙ around-at (mapAt (a .side) (a .map .now)) (a .p) (a .d)
+returns c =
+    let a = c .before .before .before .before .args in
+    c .look .ensures ∙ ap₂ (mapAt (a .side) (a .map .now)) (c .before .before .«column-at» .ensures) (c .before .«row-at» .ensures)
+    ∙ around-point (mapAt (a .side) (a .map .now)) (a .x) (a .y) (a .d) (c .before .before .before .before .pre .1)
 
 pub around-spec : {M : Type 1} → statement M
 around-spec = tie.close (tie.spec column-at-requires row-at-requires look-requires returns)

@@ -1,4 +1,5 @@
--- The loop's invariant: y rows are filled, and all other entries are as they were.
+-- One entry is written at once. The loop's invariant: y rows are filled, and all other entries are as they were.
+use Rattle.tracing.specs.Filling.{entry-filled}
 use Rattle.blocks.specs.Filling.{RowsDone, rows-done-none, row-fits, rows-done-more, rows-done-all}
 use Prim.Native.Nat.{_-_}
 use native.Mathlib.Omega.{arith}
@@ -12,14 +13,26 @@ Inv-loop map₀ w at s v from₀ y₀ map from y = RowsDone w at s y v from map�
 abbrev μ-loop : tie.MeasureT-loop
 μ-loop map₀ w at s v from₀ y₀ map from y = s - y
 
+mul-map : tie.Need-mul-map Inv-loop μ-loop
+mul-map c = omega (arith, c .before .before .pre .1 0 (omega (arith, c .if1 .taken)), c .if1 .taken, c .before .before .good)
+
+slice-write-map : tie.Need-slice-write-map Inv-loop μ-loop
+slice-write-map c = omega (arith, c .before .before .pre .1 0 (omega (arith, c .if1 .taken)), c .if1 .taken)
+
+same-length : tie.Need-same-length Inv-loop μ-loop
+same-length c = search needs
+
+returns : tie.Need-returns Inv-loop μ-loop
+returns c = entry-filled (c .if1 .taken) (omega (arith, c .before .before .pre .1 0 (omega (arith, c .if1 .taken)), c .if1 .taken))
+
 loop-holds : tie.Need-loop-holds Inv-loop μ-loop
 loop-holds c = rows-done-none
 
 fill-run-requires : tie.Need-fill-run-requires Inv-loop μ-loop
-fill-run-requires c κs = row-fits (c .before .before .before .before .pre .1) (c .before .before .loop .inv) (c .before .loop-test .taken)
+fill-run-requires c κs = row-fits (c .before .before .before .before .before .pre .1) (c .before .before .loop .inv) (c .before .loop-test .taken)
 
 add-from : tie.Need-add-from Inv-loop μ-loop
-add-from c = omega (arith, row-fits (c .before .before .before .before .before .before .before .pre .1) (c .before .before .before .before .before .loop .inv) (c .before .before .before .before .loop-test .taken), c .before .before .before .before .before .before .before .pre .0, c .before .before .before .before .before .before .before .good, c .before .before .before .before .before .loop .inv .filled .long)
+add-from c = omega (arith, row-fits (c .before .before .before .before .before .before .before .before .pre .1) (c .before .before .before .before .before .loop .inv) (c .before .before .before .before .loop-test .taken), c .before .before .before .before .before .before .before .before .pre .0, c .before .before .before .before .before .before .before .before .good, c .before .before .before .before .before .loop .inv .filled .long)
 
 add-y : tie.Need-add-y Inv-loop μ-loop
 add-y c = search needs
@@ -28,13 +41,13 @@ loop-less : tie.Need-loop-less Inv-loop μ-loop
 loop-less c = search needs
 
 loop-again : tie.Need-loop-again Inv-loop μ-loop
-loop-again c = rows-done-more (c .before .before .before .before .before .before .before .pre .1) (c .before .before .before .before .before .loop .inv) (c .before .before .before .before .loop-test .taken) (c .before .before .fill-run .ensures)
+loop-again c = rows-done-more (c .before .before .before .before .before .before .before .before .pre .1) (c .before .before .before .before .before .loop .inv) (c .before .before .before .before .loop-test .taken) (c .before .before .fill-run .ensures)
 
-same-length : tie.Need-same-length Inv-loop μ-loop
-same-length c = c .before .loop .inv .filled .long
+same-length-2 : tie.Need-same-length-2 Inv-loop μ-loop
+same-length-2 c = c .before .loop .inv .filled .long
 
-returns : tie.Need-returns Inv-loop μ-loop
-returns c = rows-done-all (c .before .loop .inv) (c .loop-test .left)
+returns-2 : tie.Need-returns-2 Inv-loop μ-loop
+returns-2 c = rows-done-all (c .before .loop .inv) (c .loop-test .left)
 
 pub fill-square-spec : {M : Type 1} → statement M
 fill-square-spec =
@@ -42,11 +55,15 @@ fill-square-spec =
     (tie.spec
     Inv-loop
     μ-loop
+    mul-map
+    slice-write-map
+    same-length
+    returns
     loop-holds
     fill-run-requires
     add-from
     add-y
     loop-less
     loop-again
-    same-length
-    returns)
+    same-length-2
+    returns-2)
