@@ -11,8 +11,10 @@ use lib.ListN.{getD}
 use lib.Dec.{eqb}
 use borrow.Author.Tests.{eq-eqb, ne-eqb}
 use Rattle.location.specs.Codes.{code, column, row}
-use Rattle.quadtree.specs.Blocks.{Block}
+use Rattle.quadtree.specs.Blocks.{Block, blocks}
 use Rattle.quadtree.specs.Fields.{colours}
+use Rattle.staircase.specs.Staircase.{done}
+use Rattle.staircase.specs.Rows.{count}
 use Rattle.unions.specs.Pairs.{Pair, pairOf}
 use Rattle.unions.specs.Joining.{onto, onto-old, onto-new, onto-cases}
 use Rattle.components.specs.Holders.{blockAt}
@@ -44,6 +46,12 @@ unfolding unlessFirst spanPairs lastInColumn column row
 northPairs n bs k =
     let b = blockAt bs k in
     unlessFirst (row n (b .code)) (spanPairs (lastInColumn n bs k) (colours bs) k (column n (b .code)) (2 ^ b .level))
+
+-- Of the blocks 2 and 3 north of block 5 only the second has its colour: "a large block has many" neighbours (document 01, "Traps in
+-- this trade").
+all-neighbours-asked : northPairs 2 (blocks (0 ∷ 1 ∷ 2 ∷ 3 ∷ 4 ∷ 8 ∷ 12 ∷ []) (0 ∷ 0 ∷ 0 ∷ 0 ∷ 1 ∷ 1 ∷ 1 ∷ []) (1 ∷ 1 ∷ 2 ∷ 1 ∷ 1 ∷ 1 ∷ 3 ∷ [])) 5 ≡ pairOf 3 5 ∷ []
+unfolding northPairs blocks count done
+all-neighbours-asked = refl
 
 -- With the blocks west of it: the last ones in its rows.
 unfoldable pub westPairs : ℕ → List Block → ℕ → List Pair

@@ -21,6 +21,16 @@ pub record Beside (n c d : ℕ) : Type 0 where
   pub to : d < 4 ^ n
   pub step : Step n c d
 
+-- "Touching corners join nothing": neighbours share a column or a row.
+pub corners-join-nothing : (n c d : ℕ) → column n c ≢ column n d → row n c ≢ row n d → ¬ Beside n c d
+corners-join-nothing n c d f g b = pick (b .step)
+  where
+    pick : Step n c d → ⊥
+    pick (north x y) = f (sym x)
+    pick (east x y) = g (sym y)
+    pick (south x y) = f (sym x)
+    pick (west x y) = g (sym y)
+
 -- A path of one colour from the pixel c, stepping north, east, south or west through pixels with codes below m. An image is
 -- the list `px` of its colours in rising location code.
 pub data Connected (n : ℕ) (px : List ℕ) (m c : ℕ) : ℕ → Type 0 where
@@ -42,16 +52,6 @@ step-back (west a b) = east (sym a) (sym b)
 
 pub beside-back : {n c d : ℕ} → Beside n c d → Beside n d c
 beside-back b = record { from = b .to; to = b .from; step = step-back (b .step) }
-
--- "Touching corners join nothing": neighbours share a column or a row.
-pub corners-join-nothing : (n c d : ℕ) → column n c ≢ column n d → row n c ≢ row n d → ¬ Beside n c d
-corners-join-nothing n c d f g b = pick (b .step)
-  where
-    pick : Step n c d → ⊥
-    pick (north x y) = f (sym x)
-    pick (east x y) = g (sym y)
-    pick (south x y) = f (sym x)
-    pick (west x y) = g (sym y)
 
 module _ {n : ℕ} {px : List ℕ} {m : ℕ} where
   pub connected-from : {c d : ℕ} → Connected n px m c d → c < m

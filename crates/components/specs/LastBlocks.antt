@@ -1,17 +1,17 @@
 -- The border of the walk: for each column and each row the last block done in it.
-use mathlib.Core.Path.{_≡_, ap, _∙_}
-use mathlib.Core.List.{List}
+use mathlib.Core.Path.{_≡_, refl, ap, _∙_}
+use mathlib.Core.List.{List, [], _∷_}
 use Prim.Native.Nat.{ℕ, suc, _+_, _-_, _%_, _^_, _≤_, _<_}
 use native.Mathlib.Omega.{arith}
 use lib.ListN.{length, take}
 use Rattle.sequences.specs.Powers.{pow2-pos}
 use Rattle.location.specs.Codes.{code, column, row}
 use Rattle.location.specs.Squares.{block-is-square, square-in-image}
-use Rattle.quadtree.specs.Blocks.{Block, pixels}
+use Rattle.quadtree.specs.Blocks.{Block, blocks, pixels}
 use Rattle.quadtree.specs.Number.{cover}
 use Rattle.staircase.specs.Staircase.{done, done-inside}
 use Rattle.staircase.specs.Edges.{eastFrom, northFrom, Border}
-use Rattle.staircase.specs.Rows.{doneInRow, doneInColumn, row-end, column-end, one-side-per-row, one-side-per-column}
+use Rattle.staircase.specs.Rows.{count, doneInRow, doneInColumn, row-end, column-end, one-side-per-row, one-side-per-column}
 use Rattle.staircase.specs.NextBlock.{InColumns, InRows, done-north-of-block, done-west-of-block, columns-before-block, rows-before-block, columns-after-block, rows-after-block, other-columns-stay, other-rows-stay}
 use Rattle.components.specs.Holders.{blockAt, holder, HoldsAt, is-holder, held-before, placed, pixels-with, pixel-held, first-pixels-in-image}
 
@@ -24,6 +24,12 @@ lastInColumn n bs k x = holder bs (code n x (doneInColumn n (pixels (take k bs))
 unfoldable pub lastInRow : ℕ → List Block → ℕ → ℕ → ℕ
 unfolding holder code doneInRow pixels
 lastInRow n bs k y = holder bs (code n (doneInRow n (pixels (take k bs)) y - 1) y)
+
+-- The first five blocks of dial 2 cover the two north rows: the last pixel done in column 1 is (1, 1), in row 1 it is (3, 1).
+last-of-dial-2 : (lastInColumn 2 (blocks (0 ∷ 1 ∷ 2 ∷ 3 ∷ 4 ∷ 8 ∷ 12 ∷ []) (0 ∷ 0 ∷ 0 ∷ 0 ∷ 1 ∷ 1 ∷ 1 ∷ []) (1 ∷ 1 ∷ 1 ∷ 2 ∷ 1 ∷ 1 ∷ 3 ∷ [])) 5 1 ≡ 3)
+    × (lastInRow 2 (blocks (0 ∷ 1 ∷ 2 ∷ 3 ∷ 4 ∷ 8 ∷ 12 ∷ []) (0 ∷ 0 ∷ 0 ∷ 0 ∷ 1 ∷ 1 ∷ 1 ∷ []) (1 ∷ 1 ∷ 1 ∷ 2 ∷ 1 ∷ 1 ∷ 3 ∷ [])) 5 1 ≡ 4)
+unfolding lastInColumn lastInRow blocks count done
+last-of-dial-2 = (refl, refl)
 
 -- x is one of the columns, y one of the rows, of the block k.
 abbrev pub ColumnOf : ℕ → List Block → ℕ → ℕ → Type 0

@@ -52,7 +52,7 @@ unfoldable pub labels : ℕ → List Block → List ℕ
 unfolding numbers paint
 labels n bs = let ns = numbers n (paint bs) in map (λ (b : Block). getD ns (b .code) 0) bs
 
--- Dials 2 and 4 of document 01.
+-- Dials 2, 4 and 5 of document 01.
 dial-2 : labels 2 (blocks (0 ∷ 1 ∷ 2 ∷ 3 ∷ 4 ∷ 8 ∷ 12 ∷ []) (0 ∷ 0 ∷ 0 ∷ 0 ∷ 1 ∷ 1 ∷ 1 ∷ []) (1 ∷ 1 ∷ 1 ∷ 2 ∷ 1 ∷ 1 ∷ 3 ∷ []))
     ≡ 0 ∷ 0 ∷ 0 ∷ 1 ∷ 0 ∷ 0 ∷ 2 ∷ []
 unfolding labels blocks
@@ -61,3 +61,7 @@ dial-2 = refl
 dial-4 : (numbers 1 (1 ∷ 2 ∷ 2 ∷ 1 ∷ []) ≡ 0 ∷ 1 ∷ 2 ∷ 3 ∷ []) × (regions 1 (1 ∷ 2 ∷ 2 ∷ 1 ∷ []) ≡ 4)
 unfolding numbers regions
 dial-4 = (refl, refl)
+
+dial-5 : (numbers 1 (1 ∷ 1 ∷ 2 ∷ 2 ∷ []) ≡ 0 ∷ 0 ∷ 1 ∷ 1 ∷ []) × (regions 1 (1 ∷ 1 ∷ 2 ∷ 2 ∷ []) ≡ 2)
+unfolding numbers regions
+dial-5 = (refl, refl)

@@ -51,6 +51,11 @@ westSpan n cs ls ks k work = unlessFirst (column n (getD cs k 0)) (spanPairs (λ
 abbrev pub stored : ℕ → List ℕ → List ℕ → ℕ → List ℕ → List ℕ
 stored n cs ls k work = fill (fill work (column n (getD cs k 0)) (2 ^ getD ls k 0) k) (2 ^ n + row n (getD cs k 0)) (2 ^ getD ls k 0) k
 
+-- Block 1 of side 1 at (1, 0) in an image of side 2: the entry 1 for its column, the entry 2 for its row.
+columns-then-rows : stored 1 (0 ∷ 1 ∷ []) (0 ∷ 0 ∷ []) 1 (9 ∷ 9 ∷ 9 ∷ 9 ∷ []) ≡ 9 ∷ 1 ∷ 1 ∷ 9 ∷ []
+unfolding fill column row
+columns-then-rows = refl
+
 -- The block at the place k of three lists of equal length.
 pub block-at : (cs ls ks : List ℕ) → length cs ≡ length ls → length ls ≡ length ks → (k : ℕ) → k < length cs
     → blockAt (blocks cs ls ks) k ≡ record { code = getD cs k 0; level = getD ls k 0; colour = getD ks k 0 }

@@ -1,4 +1,5 @@
 -- Cycles: the edges the rule of steps runs through, and where a cycle starts.
+use mathlib.Core.Path.{_≡_, refl}
 use mathlib.Core.Bool.{Bool, true, false}
 use mathlib.Core.List.{List, [], _∷_}
 use Prim.Native.Nat.{ℕ}
@@ -6,6 +7,7 @@ use lib.Dec.{eqb, leb}
 use Rattle.location.specs.Codes.{code, column, row}
 use Rattle.lattice.specs.Directions.{point, xOf, yOf, edge, tail, digit}
 use Rattle.orbits.specs.Orbits.{orbit}
+use Rattle.grid.specs.Figures.{hook}
 use Rattle.grid.specs.Map.{regionAt, around}
 use Rattle.grid.specs.Steps.{step}
 
@@ -55,3 +57,8 @@ isStart n nums c =
       | true ↦ false
       | false ↦ leastOf n c (cycle n nums c)
     ]
+
+-- The eastward edges of the hook have the pixels with the codes 2, 3 and 4 on their right: it starts at the least of them.
+starts-at-least-code : (isStart 2 hook 2 ≡ true) × (isStart 2 hook 3 ≡ false) × (isStart 2 hook 4 ≡ false)
+unfolding isStart hook
+starts-at-least-code = (refl, refl, refl)

@@ -11,7 +11,8 @@ use lib.ListN.{length, getD}
 use borrow.Author.Tests.{lt-ltb, eqb-true}
 use Rattle.sequences.specs.Powers.{pow4-mono}
 use Rattle.lattice.specs.Directions.{xOf, yOf, move, opposite, tail, digit, head}
-use Rattle.lattice.specs.Tests.{and-true-true, then-both, isEven, even-next}
+use Rattle.sequences.specs.Cases.{both-and, then-both}
+use Rattle.lattice.specs.Parity.{isEven, even-next}
 use Rattle.lattice.specs.Walks.{turns, lastOf, corners}
 use Rattle.lattice.specs.Straight.{far, Room, far-step, far-one, room-more}
 use Rattle.lattice.specs.Corners.{Walk, turns-on, turns-turn}
@@ -90,7 +91,7 @@ another b k p e es close (pos, r, w, f) = (omega arith, w .1, subst (λ q. Walk 
 turns-alternate : (es : List ℕ) (b k p close : ℕ) → Behind b k p es close → isEven (digit (lastOf b es)) ≡ false → byTurns (isEven (digit b)) p (turns (digit b) es) close ≡ true
 unfolding turns byTurns lastOf Walk Forward
 turns-alternate [] b k p close (pos, r, w, f) last =
-    and-true-true (not (isEven (digit b))) (along (isEven (digit b)) p close) (ap not last)
+    both-and (not (isEven (digit b))) (along (isEven (digit b)) p close) (ap not last)
     (subst (λ q. along (isEven (digit b)) p q ≡ true) w (along-far (digit b) k p (digit-below-four b) pos r))
 turns-alternate (e ∷ es) b k p close g last =
     pick (ℕ-discrete (digit b) (digit e)) (λ k p g. turns-alternate es e k p close g last) g

@@ -1,9 +1,9 @@
--- Outlines. First the definitions: the map, the rule of steps, cycles, their listing, computed for two dials.
+-- Outlines. First the definitions, each with facts computed for small images: the map, the rule of steps, cycles, their listing.
+pub mod Figures
 pub mod Map
 pub mod Steps
 pub mod Cycles
 pub mod Listing
-pub mod Dials
 -- The rule of steps: sides of pixels, a bijection on the edges of a region, where an outline meets itself.
 pub mod Margins
 pub mod Undoing

@@ -1,11 +1,14 @@
 -- The listing of all cycles: their order, owners, ends and corners.
+use mathlib.Core.Path.{_≡_, refl}
 use mathlib.Core.Bool.{Bool, true, false}
 use mathlib.Core.List.{List, [], _∷_, _++_, map, flatMap}
 use Prim.Native.Nat.{ℕ, zero, suc, _+_, _^_}
 use lib.ListN.{length, getD}
 use lib.Dec.{eqb}
 use Rattle.sequences.specs.Ranges.{range}
+use Rattle.lattice.specs.Directions.{point}
 use Rattle.lattice.specs.Walks.{corners}
+use Rattle.grid.specs.Figures.{figure5a, figure5b}
 use Rattle.grid.specs.Cycles.{cycle, isStart}
 
 -- The numbers of a list that pass a test, in their order.
@@ -28,6 +31,11 @@ starts n nums r = keep (startsIn n nums r) (range 0 (4 ^ n))
 unfoldable pub startCodes : ℕ → List ℕ → ℕ → List ℕ
 unfolding flatMap starts range
 startCodes n nums regions = flatMap (starts n nums) (range 0 regions)
+
+-- Figure 5(a): of region 0 the outline from the code 0 and that of its hole from the code 11, then region 1 from the code 3.
+by-region-then-code : startCodes 2 figure5a 2 ≡ 0 ∷ 11 ∷ 3 ∷ []
+unfolding startCodes figure5a
+by-region-then-code = refl
 
 -- A cycle: the region it bounds, and its corners from its start.
 pub record Cycle : Type 0 where
@@ -59,6 +67,24 @@ ends cs = endsFrom 0 cs
 unfoldable pub allCorners : List Cycle → List ℕ
 allCorners [] = []
 allCorners (c ∷ cs) = c .points ++ allCorners cs
+
+-- Figure 5(a): the hole of region 0 starts at its eastward edge, from (1, 3).
+figure-5a : (owners (listing 2 figure5a 2) ≡ 0 ∷ 0 ∷ 1 ∷ []) × (ends (listing 2 figure5a 2) ≡ 4 ∷ 8 ∷ 12 ∷ [])
+    × (allCorners (listing 2 figure5a 2)
+    ≡ point 0 0 ∷ point 4 0 ∷ point 4 4 ∷ point 0 4
+    ∷ point 1 3 ∷ point 3 3 ∷ point 3 1 ∷ point 1 1
+    ∷ point 1 1 ∷ point 3 1 ∷ point 3 3 ∷ point 1 3 ∷ [])
+unfolding owners ends allCorners listing figure5a point
+figure-5a = (refl, refl, refl)
+
+-- Figure 5(b): the outline of region 0 meets itself at (2, 2) and turns right there.
+figure-5b : (owners (listing 2 figure5b 3) ≡ 0 ∷ 1 ∷ 2 ∷ []) × (ends (listing 2 figure5b 3) ≡ 10 ∷ 14 ∷ 18 ∷ [])
+    × (allCorners (listing 2 figure5b 3)
+    ≡ point 0 0 ∷ point 4 0 ∷ point 4 2 ∷ point 2 2 ∷ point 2 1 ∷ point 1 1 ∷ point 1 2 ∷ point 2 2 ∷ point 2 4 ∷ point 0 4
+    ∷ point 1 1 ∷ point 2 1 ∷ point 2 2 ∷ point 1 2
+    ∷ point 2 2 ∷ point 4 2 ∷ point 4 4 ∷ point 2 4 ∷ [])
+unfolding owners ends allCorners listing figure5b point
+figure-5b = (refl, refl, refl)
 
 -- The corners of the cycle k of a list.
 unfoldable pub pointsAt : List Cycle → ℕ → List ℕ

@@ -1,11 +1,12 @@
 -- Unit edges of a region, and the rule of steps. A map's value r above 0 stands for the region r - 1 (`regionAt`).
-use mathlib.Core.Path.{_≡_}
+use mathlib.Core.Path.{_≡_, refl}
 use mathlib.Core.Logic.{_≢_}
 use mathlib.Core.Bool.{true, false}
 use Prim.Native.Nat.{ℕ, _<_}
 use lib.Dec.{eqb}
-use Rattle.lattice.specs.Directions.{rightOf, leftOf, edge, tail, digit, head}
-use Rattle.grid.specs.Map.{around}
+use Rattle.lattice.specs.Directions.{point, rightOf, leftOf, edge, tail, digit, head}
+use Rattle.grid.specs.Figures.{figure5b}
+use Rattle.grid.specs.Map.{regionAt, around}
 
 -- A unit side from the point p in the direction d that has a pixel of the region r on its right and none on its left. "A unit side
 -- of a pixel in region R is an edge of R if the pixel beyond is in another region or outside the image. It is walked with R on its
@@ -30,6 +31,11 @@ turn m r p d =
       | false ↦ rightOf d
       | true ↦ elim (eqb (around m p (leftOf d)) r) [ false ↦ d | true ↦ leftOf d ]
     ]
+
+-- At figure 5(b)'s pinch (2, 2) the outline of region 0 turns right, after a westward edge and after an eastward one.
+right-at-a-pinch : (turn (regionAt 2 figure5b) 1 (point 2 2) 2 ≡ rightOf 2) × (turn (regionAt 2 figure5b) 1 (point 2 2) 0 ≡ rightOf 0)
+unfolding turn regionAt figure5b point
+right-at-a-pinch = (refl, refl)
 
 -- The edge after e, in the region on the right of e.
 unfoldable pub step : (ℕ → ℕ → ℕ) → ℕ → ℕ

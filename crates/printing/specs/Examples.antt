@@ -2,7 +2,7 @@
 use mathlib.Core.Path.{_≡_, refl}
 use mathlib.Core.List.{List, [], _∷_, map}
 use Prim.Native.Nat.{ℕ}
-use Rattle.lattice.specs.Tests.{isEven}
+use Rattle.lattice.specs.Parity.{isEven}
 use Rattle.lattice.specs.Directions.{xOf, yOf}
 use Rattle.paths.specs.Decimal.{decimal}
 use Rattle.printing.specs.Printed.{wholeText}

@@ -14,16 +14,12 @@ use Rattle.grid.specs.Bounds.{cycles-fit, corner-count-fits}
 use Rattle.grid.specs.Forms.{listed-is-cycle-form}
 use Rattle.components.specs.Numbers.{numbers, regions}
 use Rattle.components.specs.Numbered.{each-number-given}
+use Rattle.links.specs.Image.{imageOutlines}
 use Rattle.printing.specs.Lines.{lines, byCycles, AllOf, Forms, Regionwise, each-form, cycles-give-lines, room, room-suffices}
-
--- The outlines of all regions of an image of side 2^n, whose colours `px` stand in rising location code.
-unfoldable pub imageOutlines : ℕ → List ℕ → List Cycle
-unfolding listing numbers regions
-imageOutlines n px = listing n (numbers n px) (regions n px)
 
 -- "one line a region": the whole text of the image.
 unfoldable pub imageText : ℕ → List ℕ → List ℕ
-unfolding lines regions imageOutlines
+unfolding lines regions listing numbers
 imageText n px = lines (regions n px) (imageOutlines n px)
 
 map-flat : (f : ℕ → Cycle) (g : ℕ → List ℕ) (xs : List ℕ) → map f (flatMap g xs) ≡ flatMap (λ x. map f (g x)) xs
@@ -64,18 +60,17 @@ module _ (n : ℕ) (px : List ℕ) (small : n ≤ 8) where
 
   -- The lines of an image are its outlines, cycle after cycle, with LF where the next is of another region or none is left.
   pub lines-by-cycles : byCycles (imageOutlines n px) ≡ imageText n px
-  unfolding imageOutlines imageText lines
+  unfolding imageText lines
   lines-by-cycles =
       subst (λ (l : List Cycle). byCycles l ≡ lines (regions n px) l) (sym (by-region n (numbers n px) (regions n px)))
       (cycles-give-lines (regionCycles n (numbers n px)) 0 (regions n px) regionwise)
 
   pub outline-forms : Forms (imageOutlines n px)
-  unfolding imageOutlines
   outline-forms = each-form (listing n (numbers n px) (regions n px)) (listed-is-cycle-form n (numbers n px) (regions n px) small)
 
   -- 9 a cycle, 4 a corner and 1 a line: at most 4^n cycles, 4 times 4^n corners and not more lines than cycles.
   pub outlines-room : room (imageOutlines n px) ≤ 26 * 4 ^ n
-  unfolding room imageOutlines cycleCount cornerCount
+  unfolding room cycleCount cornerCount
   outlines-room = omega (arith, cycles-fit n (numbers n px) (regions n px), corner-count-fits n (numbers n px) (regions n px) small)
 
   pub image-text-fits : length (imageText n px) ≤ 26 * 4 ^ n

@@ -20,7 +20,8 @@ use Rattle.grid.specs.Listing.{owners, ends, allCorners}
 use Rattle.grid.specs.Stretches.{length-owners}
 use Rattle.paths.specs.Answers.{Put}
 use Rattle.printing.specs.Lines.{byCycles}
-use Rattle.printing.specs.Outlines.{imageOutlines, imageText, lines-by-cycles, outline-forms, outlines-room}
+use Rattle.links.specs.Image.{imageOutlines}
+use Rattle.printing.specs.Outlines.{imageText, lines-by-cycles, outline-forms, outlines-room}
 use Rattle.printing.specs.Held.{cyclesIn, tracing-held}
 use Rattle.printing.specs.Writing.{Drawable}
 

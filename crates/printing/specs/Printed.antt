@@ -1,10 +1,10 @@
 -- What is printed for the bytes of a file: the lines of its outlines, or the line of a refusal; and what the function promises.
-use mathlib.Core.Path.{_≡_}
+use mathlib.Core.Path.{_≡_, refl}
 use mathlib.Core.Bool.{true, false}
 use mathlib.Core.List.{List, [], _∷_, _++_}
 use Prim.Native.Nat.{ℕ, zero, suc, _*_, _^_}
 use lib.Dec.{ltb}
-use lib.ListN.{length}
+use lib.ListN.{length, replicate}
 use Rattle.sequences.specs.Cases.{first, when}
 use Rattle.sequences.specs.Over.{over}
 use Rattle.quadtree.specs.Raster.{inCodeOrder}
@@ -24,6 +24,11 @@ refusedLine number = 114 ∷ 101 ∷ 102 ∷ 117 ∷ 115 ∷ 101 ∷ 100 ∷ 32 
 unfoldable pub inputNumber : List ℕ → ℕ
 unfolding first when answer
 inputNumber bytes = first (when (ltb 8192 (length bytes)) 15) (answer bytes .number)
+
+-- Of 8,193 zeros the header is bad as well.
+fifteen-before-ten : inputNumber (replicate 8193 0) ≡ 15
+unfolding inputNumber
+fifteen-before-ten = refl
 
 -- The lines of an accepted picture: its raster in rising location code is the image.
 unfoldable pub pictureText : List ℕ → List ℕ
@@ -55,6 +60,11 @@ textNeed bytes = needFor (inputNumber bytes) bytes
 unfoldable pub printNumber : List ℕ → ℕ → ℕ
 unfolding first when inputNumber textNeed
 printNumber bytes size = first (inputNumber bytes) (when (ltb size (textNeed bytes)) 8)
+
+-- Nothing is a bad header, and a text list of length 0 has no room for the line.
+ten-before-eight : printNumber [] 0 ≡ 10
+unfolding printNumber
+ten-before-eight = refl
 
 -- All of a text where the list is no shorter than the need, else nothing.
 unfoldable pub ifRoom : ℕ → ℕ → List ℕ → List ℕ

@@ -8,9 +8,9 @@ use Rattle.sequences.specs.Cases.{written-accepted}
 use Rattle.sequences.specs.Over.{over}
 use Rattle.quadtree.specs.Blocks.{blocks, paint}
 use Rattle.grid.specs.Listing.{Cycle, owners, ends, allCorners, cycleCount}
+use Rattle.links.specs.Image.{imageOutlines}
 use Rattle.tracing.specs.Tracing.{Lent, tracingNumber, outlinesOf, cyclesWritten, Tracing, none-short}
 use Rattle.tracing.specs.declared.Traced.{Traced}
-use Rattle.printing.specs.Outlines.{imageOutlines}
 use Rattle.printing.specs.Picturing.{Traceable, few-pixels, Outlined}
 
 module _ {n : ℕ} {cs ls ks text : List ℕ} {before after : Lent} {r : Traced} (a : Traceable n cs ls ks text) (t : Tracing n cs ls ks before after r)
@@ -22,7 +22,7 @@ module _ {n : ℕ} {cs ls ks text : List ℕ} {before after : Lent} {r : Traced}
       sym (none-short n cs ls ks before (a .accepted) (omega (arith, a .few)) (omega arith) (omega arith) (omega arith) (omega arith))
 
   all-written : cyclesWritten n cs ls ks before ≡ imageOutlines n (paint (blocks cs ls ks))
-  unfolding cyclesWritten outlinesOf imageOutlines
+  unfolding cyclesWritten outlinesOf
   all-written = written-accepted (tracingNumber n cs ls ks before) (outlinesOf n cs ls ks) accepted
 
   pub outlined : Outlined n (paint (blocks cs ls ks)) (before .ownerList) (before .endList) (before .cornerList) (after .ownerList) (after .endList) (after .cornerList) (r .cycles)

@@ -12,13 +12,13 @@ same-length : tie.Need-same-length
 same-length c = search needs
 
 returns : tie.Need-returns
-returns c = long-printed (c .before .before .before .before .if1 .taken) (c .before .before .refuse .ensures)
+returns c = long-printed (omega (arith, c .before .before .before .before .if1 .taken)) (c .before .before .refuse .ensures)
 
 read-requires : tie.Need-read-requires
 read-requires c κs = search needs
 
 refuse-requires-2 : tie.Need-refuse-requires-2
-refuse-requires-2 c κs = two-digits (c .before .before .before .if1 .left) (c .before .before .read .ensures) (c .before .if2 .taken)
+refuse-requires-2 c κs = two-digits (omega (arith, c .before .before .before .if1 .left)) (c .before .before .read .ensures) (c .before .if2 .taken)
 
 same-length-2 : tie.Need-same-length-2
 same-length-2 c = search needs
@@ -33,7 +33,7 @@ mul-if3 : tie.Need-mul-if3
 mul-if3 c = omega (arith, few (c .before .before .before .if1 .left) (c .before .before .read .ensures) (c .before .if2 .left) (c .pixels .ensures))
 
 returns-3 : tie.Need-returns-3
-returns-3 c = eight-printed (c .before .before .before .before .if1 .left) (c .before .before .before .read .ensures) (c .before .before .if2 .left) (c .before .pixels .ensures) (c .if3 .taken)
+returns-3 c = eight-printed (c .before .before .before .before .if1 .left) (c .before .before .before .read .ensures) (c .before .before .if2 .left) (c .before .pixels .ensures) (omega (arith, c .if3 .taken))
 
 add-end : tie.Need-add-end
 add-end c = omega (arith, inside (c .before .before .before .before .before .if1 .left) (c .before .before .before .before .read .ensures) (c .before .before .before .if2 .left) (c .before .before .pixels .ensures), c .before .before .before .before .before .before .before .before .good)
@@ -45,10 +45,10 @@ part-write-picture-start : tie.Need-part-write-picture-start
 part-write-picture-start c = search needs
 
 part-write-picture-end : tie.Need-part-write-picture-end
-part-write-picture-end c = inside (c .before .before .before .before .before .if1 .left) (c .before .before .before .before .read .ensures) (c .before .before .before .if2 .left) (c .before .before .pixels .ensures)
+part-write-picture-end c = omega (arith, inside (c .before .before .before .before .before .if1 .left) (c .before .before .before .before .read .ensures) (c .before .before .before .if2 .left) (c .before .before .pixels .ensures))
 
 write-picture-requires : tie.Need-write-picture-requires
-write-picture-requires c κs = drawing (c .before .before .before .before .before .before .before .if1 .left) (c .before .before .before .before .before .before .read .ensures) (c .before .before .before .before .before .if2 .left) (c .before .before .before .before .pixels .ensures) (c .before .before .before .if3 .left)
+write-picture-requires c κs = drawing (c .before .before .before .before .before .before .before .if1 .left) (c .before .before .before .before .before .before .read .ensures) (c .before .before .before .before .before .if2 .left) (c .before .before .before .before .pixels .ensures) (omega (arith, c .before .before .before .if3 .left))
 
 cast-t22 : tie.Need-cast-t22
 cast-t22 c = omega (arith, count-fits (c .before .before .before .before .before .before .before .before .before .before .if1 .left) (c .before .before .before .before .before .before .before .before .before .read .ensures) (c .before .before .before .before .before .before .before .before .if2 .left) (c .before .before .before .before .before .before .before .pixels .ensures) (c .before .before .before .before .before .before .if3 .left) (c .before .before .write-picture .ensures))

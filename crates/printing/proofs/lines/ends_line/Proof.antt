@@ -1,4 +1,5 @@
 -- The last of all cycles ends a line, and any other one where the next owner is another region.
+use native.Mathlib.Omega.{arith}
 use Rattle.printing.specs.Held.{line-at-end, line-by-owners}
 use borrow.Author.Needs.{needs}
 use Rattle.printing.proofs.lines.ends_line.Statement.{statement}
@@ -8,7 +9,7 @@ add-if1 : tie.Need-add-if1
 add-if1 c = search needs
 
 returns : tie.Need-returns
-returns c = line-at-end _ _ _ (c .if1 .taken)
+returns c = line-at-end _ _ _ (omega (arith, c .if1 .taken))
 
 add-result : tie.Need-add-result
 add-result c = search needs

@@ -13,6 +13,9 @@ Inv-loop owners ends corners cycles text₀ at₀ k₀ text at k = Underway owne
 abbrev μ-loop : tie.MeasureT-loop
 μ-loop owners ends corners cycles text₀ at₀ k₀ text at k = cycles - k
 
+returns : tie.Need-returns Inv-loop μ-loop
+returns c = finish (c .before .loop .inv) (omega (arith, c .loop-test .left))
+
 loop-holds : tie.Need-loop-holds Inv-loop μ-loop
 loop-holds c = begin (c .before .before .before .before .pre)
 
@@ -48,9 +51,6 @@ loop-again c = turn (c .before .before .before .before .before .before .before .
 
 same-length : tie.Need-same-length Inv-loop μ-loop
 same-length c = c .before .loop .inv .long
-
-returns : tie.Need-returns Inv-loop μ-loop
-returns c = finish (c .before .loop .inv) (c .loop-test .left)
 
 pub write-spec : {M : Type 1} → statement M
 write-spec =

@@ -6,6 +6,13 @@ use borrow.Author.Needs.{needs}
 use Rattle.printing.proofs.picture.write_outlines.Statement.{statement}
 use Rattle.printing.proofs.picture.write_outlines.Tie as tie
 
+returns : tie.Need-returns
+returns c =
+    let start = c .before .before .before .before .before .before .before .before .before .before .before .before .before .before .before .before .before .before .before .before .before .before in
+    let trace = c .before .before .before .before .before .before .before .before .before .before .before .before .trace in
+    drawn (omega (arith, start .pre .low))
+    (outlined (start .pre) (trace .ensures) (omega arith) (omega arith) (omega arith) (omega arith) (omega arith)) (c .before .before .write .ensures)
+
 slice-aggregate-trace : tie.Need-slice-aggregate-trace
 slice-aggregate-trace c = search needs
 
@@ -42,13 +49,6 @@ write-requires c κs =
 
 same-length : tie.Need-same-length
 same-length c = search needs
-
-returns : tie.Need-returns
-returns c =
-    let start = c .before .before .before .before .before .before .before .before .before .before .before .before .before .before .before .before .before .before .before .before .before .before in
-    let trace = c .before .before .before .before .before .before .before .before .before .before .before .before .trace in
-    drawn (omega (arith, start .pre .low))
-    (outlined (start .pre) (trace .ensures) (omega arith) (omega arith) (omega arith) (omega arith) (omega arith)) (c .before .before .write .ensures)
 
 pub write-outlines-spec : {M : Type 1} → statement M
 write-outlines-spec =

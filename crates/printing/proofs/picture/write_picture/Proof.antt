@@ -40,7 +40,11 @@ slice-aggregate-write-outlines-3 : tie.Need-slice-aggregate-write-outlines-3
 slice-aggregate-write-outlines-3 c = omega (arith, length-take (c .before .before .before .before .before .before .before .from-raster .result .count) (c .before .before .before .before .before .before .before .from-raster .last .1 .1 .1 .1 .0), count-in-colours (c .before .before .before .before .before .before .before .from-raster .ensures))
 
 write-outlines-requires : tie.Need-write-outlines-requires
-write-outlines-requires c κs = merged-traceable (c .before .before .before .before .before .before .before .before .before .before .before .before .before .before .pre) (c .before .before .before .before .before .before .before .before .from-raster .ensures) (omega arith) (omega arith) (omega arith) (omega (arith, c .before .before .before .before .before .before .before .before .from-raster .kept .1 .1 .0))
+write-outlines-requires c κs =
+    let start = c .before .before .before .before .before .before .before .before .before .before .before .before .before .before in
+    let merging = c .before .before .before .before .before .before .before .before .from-raster in
+    let t = merged-traceable (start .pre) (merging .ensures) (omega arith) (omega arith) (omega arith) (omega (arith, merging .kept .1 .1 .0)) in
+    record { low = t .low; few = t .few; accepted = omega (arith, t .accepted); enough = t .enough }
 
 same-length : tie.Need-same-length
 same-length c = search needs

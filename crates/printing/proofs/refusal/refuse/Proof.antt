@@ -7,7 +7,7 @@ use Rattle.printing.proofs.refusal.refuse.Statement.{statement}
 use Rattle.printing.proofs.refusal.refuse.Tie as tie
 
 returns : tie.Need-returns
-returns c = refused-silently (c .before .pre) (c .if1 .taken)
+returns c = refused-silently (c .before .pre) (omega (arith, c .if1 .taken))
 
 slice-write-text : tie.Need-slice-write-text
 slice-write-text c = search needs
