@@ -1,13 +1,16 @@
 /* Traces a binary PGM of up to 256 by 256 pixels through the library and prints what the program `outlines` prints: one line
-   a region, the path data of its cycles joined; or `refused` and the number.
+   a region, the path data of its cycles joined; or `refused` and the number. The exit status is 0, 1 where the picture is
+   refused, and 2 where there is nothing to read.
 
        rt staticlib exports
        gcc -O2 -Iinclude -o target/trace examples/trace.c target/staticlib/libexports.a
        target/trace samples/clock-256.pgm
 */
+#include <errno.h>
 #include <nettlestair.h>
 #include <stdio.h>
 #include <stdlib.h>
+#include <string.h>
 
 /* The pixels of the largest picture: every need is told by them. */
 #define WHOLE 65536
@@ -55,30 +58,31 @@ static int outlines(const uint8_t *bytes, size_t length) {
     return 0;
 }
 
-/* The bytes of a file; NULL if it can't be read. */
+/* The bytes of a file; NULL, with errno set, if it can't be read. */
 static uint8_t *contents(const char *name, size_t *length) {
     FILE *file = fopen(name, "rb");
     if (file == NULL)
         return NULL;
-    size_t room = 1 << 16;
-    uint8_t *bytes = malloc(room);
+    uint8_t *bytes = NULL;
     *length = 0;
-    while (bytes != NULL) {
-        *length += fread(bytes + *length, 1, room - *length, file);
-        if (*length < room)
-            break;
-        room *= 2;
+    for (size_t room = 1 << 17;; room *= 2) {
         uint8_t *more = realloc(bytes, room);
         if (more == NULL)
-            free(bytes);
+            break;
         bytes = more;
+        *length += fread(bytes + *length, 1, room - *length, file);
+        if (ferror(file))
+            break;
+        if (*length < room) {
+            fclose(file);
+            return bytes;
+        }
     }
-    if (bytes != NULL && ferror(file)) {
-        free(bytes);
-        bytes = NULL;
-    }
+    int fault = errno;
+    free(bytes);
     fclose(file);
-    return bytes;
+    errno = fault;
+    return NULL;
 }
 
 int main(int count, char **words) {
@@ -89,10 +93,14 @@ int main(int count, char **words) {
     size_t length;
     uint8_t *bytes = contents(words[1], &length);
     if (bytes == NULL) {
-        perror(words[1]);
+        fprintf(stderr, "trace: %s: %s\n", words[1], strerror(errno));
         return 2;
     }
     int status = outlines(bytes, length);
     free(bytes);
-    return fflush(stdout) == 0 ? status : 2;
+    if (fflush(stdout) != 0) {
+        fprintf(stderr, "trace: %s\n", strerror(errno));
+        return 2;
+    }
+    return status;
 }

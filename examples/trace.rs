@@ -1,10 +1,12 @@
 //! Traces a binary PGM of up to 256 by 256 pixels through the library and prints what the program `outlines` prints: one line
-//! a region, the path data of its cycles joined; or `refused` and the number.
+//! a region, the path data of its cycles joined; or `refused` and the number. The exit status is 0, 1 where the picture is
+//! refused, and 2 where there is nothing to read.
 //!
 //!     rt staticlib exports
 //!     rustc -O --edition 2021 -L target/staticlib -l static=exports -o target/trace examples/trace.rs
 //!     target/trace samples/clock-256.pgm
 
+#[path = "../include/nettlestair.rs"]
 mod nettlestair;
 
 use std::io::Write;
@@ -15,12 +17,12 @@ use std::{env, fs, io};
 fn outlines(bytes: &[u8]) -> Result<Vec<u8>, u32> {
     let picture = nettlestair::read_pgm(bytes);
     accepted(picture.number)?;
-    let n = picture.n;
-    let whole = 1 << (2 * n);
+    let (n, raster) = (picture.n, picture.raster.of(bytes));
+    let whole = raster.len();
 
     // the raster as blocks
     let (mut codes, mut levels, mut colours) = (vec![0; whole], vec![0; whole], vec![0; whole]);
-    let merged = nettlestair::blocks_from_raster(n, picture.raster, &mut codes, &mut levels, &mut colours);
+    let merged = nettlestair::blocks_from_raster(n, raster, &mut codes, &mut levels, &mut colours);
     accepted(merged.number)?;
     let blocks = merged.count as usize;
     let (codes, levels, colours) = (&codes[..blocks], &levels[..blocks], &colours[..blocks]);
@@ -38,7 +40,7 @@ fn outlines(bytes: &[u8]) -> Result<Vec<u8>, u32> {
         if k > 0 && owners[k as usize] != owners[k as usize - 1] {
             lines.push(b'\n');
         }
-        let cycle = nettlestair::cycle(&corners, &ends, traced.cycles, k);
+        let cycle = nettlestair::cycle(&corners, &ends, traced.cycles, k).of(&corners);
         let end = lines.len();
         lines.resize(end + 9 + 4 * cycle.len(), 0);
         let path = nettlestair::svg(cycle, &mut lines[end..]);
@@ -58,11 +60,12 @@ fn accepted(number: u32) -> Result<(), u32> {
 }
 
 fn main() -> ExitCode {
-    let Some(name) = env::args_os().nth(1) else {
+    let words: Vec<_> = env::args_os().skip(1).collect();
+    let [name] = &words[..] else {
         eprintln!("usage: trace FILE.pgm");
         return ExitCode::from(2);
     };
-    let bytes = match fs::read(&name) {
+    let bytes = match fs::read(name) {
         Ok(bytes) => bytes,
         Err(error) => {
             eprintln!("trace: {}: {error}", name.display());
@@ -75,6 +78,9 @@ fn main() -> ExitCode {
     };
     match io::stdout().write_all(&text) {
         Ok(()) => status,
-        Err(_) => ExitCode::from(2),
+        Err(error) => {
+            eprintln!("trace: {error}");
+            ExitCode::from(2)
+        }
     }
 }

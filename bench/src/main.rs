@@ -3,10 +3,12 @@
 #[path = "../../samples/dial.rs"]
 mod dial;
 mod inputs;
-#[path = "../../examples/nettlestair.rs"]
+#[path = "../../include/nettlestair.rs"]
 mod nettlestair;
 mod pictures;
 mod plain;
+#[path = "../../tests/src/random.rs"]
+#[allow(dead_code)]
 mod random;
 mod report;
 mod sides;

@@ -2,11 +2,16 @@
 
 use crate::compare::difference;
 use crate::lent::{Entry, Lent};
-use crate::library::{self, refused, Numbered, Traced, Written};
 use crate::model::blocks::Blocks;
+use crate::nettlestair::{self, Numbered, Traced, Written};
 use crate::random::Random;
 use std::fmt::{Debug, Display};
 use std::hint::black_box;
+
+/// The answer of a refusal: "number, counts 0".
+const fn refused(number: u32) -> Written {
+    Written { number, count: 0 }
+}
 
 /// Raster to blocks, after a call.
 pub struct BlocksOut {
@@ -23,7 +28,8 @@ impl BlocksOut {
         let mut codes = Lent::new(random, lengths[0]);
         let mut levels = Lent::new(random, lengths[1]);
         let mut colours = Lent::new(random, lengths[2]);
-        let written = library::blocks_from_raster(n, black_box(raster), codes.lend(), levels.lend(), colours.lend());
+        let written =
+            nettlestair::blocks_from_raster(n, black_box(raster), codes.lend(), levels.lend(), colours.lend());
         unchanged("raster", &before, black_box(raster));
         BlocksOut { written, codes, levels, colours }
     }
@@ -78,7 +84,7 @@ impl<T: Entry> Out<T> {
 /// Blocks to raster, with a raster of the given length.
 pub fn raster_from_blocks(random: &mut Random, n: u32, blocks: &Blocks, length: usize) -> Out<u8> {
     handed_in(blocks, |Blocks { codes, levels, colours }| {
-        Out::of(random, length, |raster| library::raster_from_blocks(n, codes, levels, colours, raster))
+        Out::of(random, length, |raster| nettlestair::raster_from_blocks(n, codes, levels, colours, raster))
     })
 }
 
@@ -111,8 +117,9 @@ impl<A: Copy + PartialEq + Debug, const LISTS: usize> Called<A, LISTS> {
 pub fn number(random: &mut Random, n: u32, blocks: &Blocks, lengths: [usize; 2]) -> Called<Numbered, 2> {
     let mut lists = lengths.map(|length| Lent::new(random, length));
     let [labels, work] = lists.each_mut().map(Lent::lend);
-    let answer =
-        handed_in(blocks, |Blocks { codes, levels, colours }| library::number(n, codes, levels, colours, labels, work));
+    let answer = handed_in(blocks, |Blocks { codes, levels, colours }| {
+        nettlestair::number(n, codes, levels, colours, labels, work)
+    });
     Called { answer, lists }
 }
 
@@ -121,7 +128,7 @@ pub fn trace(random: &mut Random, n: u32, blocks: &Blocks, lengths: [usize; 5]) 
     let mut lists = lengths.map(|length| Lent::new(random, length));
     let [labels, work, owners, ends, corners] = lists.each_mut().map(Lent::lend);
     let answer = handed_in(blocks, |Blocks { codes, levels, colours }| {
-        library::trace(n, codes, levels, colours, labels, work, owners, ends, corners)
+        nettlestair::trace(n, codes, levels, colours, labels, work, owners, ends, corners)
     });
     Called { answer, lists }
 }

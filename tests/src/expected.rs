@@ -1,10 +1,10 @@
 //! What numbering and tracing should answer and write for a block list, by the model.
 
 use crate::calls::Expected;
-use crate::library::{Numbered, Traced};
 use crate::model::blocks::{number, paint, Blocks};
 use crate::model::outlines::Outlines;
 use crate::model::regions::Regions;
+use crate::nettlestair::{Numbered, Traced};
 use std::cell::OnceCell;
 
 /// The needs of the label, work, owner, end and corner lists. n above 8 is refused before any need, and gets those of one

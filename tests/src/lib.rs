@@ -1,8 +1,9 @@
 //! Tests of the proved library from Rust.
 //!
-//! `library` calls the library through its C names, `model` is a second implementation of document 01 that shares nothing
+//! `nettlestair` calls the library through its C names, `model` is a second implementation of document 01 that shares nothing
 //! with the proved one, and the rest is what the tests in `tests/` use: comparing, lending, random numbers, counting cases.
 
+pub mod browser;
 pub mod calls;
 pub mod cases;
 pub mod compare;
@@ -11,8 +12,12 @@ pub mod expected;
 pub mod faults;
 pub mod figures;
 pub mod lent;
-pub mod library;
 pub mod model;
+#[path = "../../include/nettlestair.rs"]
+pub mod nettlestair;
 pub mod outlines;
+pub mod png;
+pub mod programs;
 pub mod random;
 pub mod rasters;
+pub mod svg;

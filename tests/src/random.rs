@@ -5,6 +5,10 @@ pub struct Random {
 }
 
 impl Random {
+    pub fn new(seed: u64) -> Random {
+        Random { state: seed }
+    }
+
     /// A generator for one test, from the seed in the variable NETTLESTAIR_SEED or a fixed one. The seed is printed.
     pub fn of(test: &str) -> Random {
         let seed = match std::env::var("NETTLESTAIR_SEED") {
@@ -12,7 +16,7 @@ impl Random {
             Err(_) => 20_240_229,
         };
         println!("{test}: seed {seed}");
-        Random { state: seed }
+        Random::new(seed)
     }
 
     pub fn draw(&mut self) -> u64 {

@@ -5,8 +5,8 @@ use tests::calls::{agrees, number as numbering, raster_from_blocks, trace};
 use tests::cases::Cases;
 use tests::expected::{needs, Model};
 use tests::faults;
-use tests::library::check;
 use tests::model::blocks::{conditions, number, paint, quadtree, Blocks};
+use tests::nettlestair::check;
 use tests::random::Random;
 use tests::rasters;
 

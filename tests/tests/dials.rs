@@ -2,8 +2,8 @@
 
 use tests::calls::{agrees, raster_from_blocks};
 use tests::cases::Cases;
-use tests::library::check;
 use tests::model::blocks::{number, paint, Blocks};
+use tests::nettlestair::check;
 use tests::random::Random;
 
 /// The lists of dials 6 to 12 with the number that the document gives, and those of dials 1 to 5, which are accepted.

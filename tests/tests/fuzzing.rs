@@ -9,10 +9,10 @@ use tests::compare::Shown;
 use tests::expected::{needs, Model};
 use tests::faults;
 use tests::lent::Entry;
-use tests::library::{self, Picture, Stretch};
 use tests::model::blocks::{number, paint, quadtree, Blocks};
 use tests::model::paths;
 use tests::model::pgm::{self, Read};
+use tests::nettlestair::{self, Picture, Stretch};
 use tests::outlines::random_outline;
 use tests::random::Random;
 use tests::rasters;
@@ -115,7 +115,7 @@ fn check(random: &mut Random, wrong: u32) -> (u32, Option<String>) {
     let (n, blocks) = block_list(random);
     let Blocks { codes, levels, colours } = &blocks;
     let expected = number(n, codes, levels, colours);
-    let found = library::check(n, codes, levels, colours) + wrong;
+    let found = nettlestair::check(n, codes, levels, colours) + wrong;
     (expected, (expected != found).then(|| format!("n = {n}, {blocks}: expected {expected}, found {found}")))
 }
 
@@ -193,7 +193,7 @@ fn cycle(random: &mut Random, wrong: u32) -> (u32, Option<String>) {
     }
     let [count, k] = [0, 0].map(|_| if random.below(9) == 0 { random.word() } else { random.below(7) as u32 });
     let (start, length) = paths::stretch(corners.len(), &ends, count, k);
-    let mut found = library::cycle(&corners, &ends, count, k);
+    let mut found = nettlestair::cycle(&corners, &ends, count, k);
     found.length += wrong as usize;
     let differs = found != Stretch { start, length };
     (0, differs.then(|| format!("{} corners, ends {ends:?}, count {count}, k {k}: {found:?}", corners.len())))
@@ -228,7 +228,7 @@ fn svg(random: &mut Random, wrong: u32) -> (u32, Option<String>) {
     let text = paths::is_cycle_form(&corners).then(|| paths::svg(&corners).into_bytes());
     let need = 9 + 4 * corners.len();
     let length = length(random, need);
-    let out = Out::of(random, length, |list| library::svg(&corners, list));
+    let out = Out::of(random, length, |list| nettlestair::svg(&corners, list));
     let (number, difference) = judged(out, text.as_deref(), 16, need <= length, wrong);
     (number, difference.map(|d| format!("{}, room for {length}: {d}", Shown(&corners))))
 }
@@ -238,7 +238,7 @@ fn chain(random: &mut Random, wrong: u32) -> (u32, Option<String>) {
     let digits = paths::is_cycle_form(&corners).then(|| paths::chain(&corners));
     let need = digits.as_ref().map_or(9, Vec::len);
     let length = length(random, need);
-    let out = Out::of(random, length, |list| library::chain(&corners, list));
+    let out = Out::of(random, length, |list| nettlestair::chain(&corners, list));
     let (number, difference) = judged(out, digits.as_deref(), 16, need <= length, wrong);
     (number, difference.map(|d| format!("{}, room for {length}: {d}", Shown(&corners))))
 }
@@ -255,7 +255,7 @@ fn read_chain(random: &mut Random, wrong: u32) -> (u32, Option<String>) {
     let corners = paths::read_chain(start, &digits);
     let need = corners.as_ref().map_or(9, Vec::len);
     let length = length(random, need);
-    let out = Out::of(random, length, |list| library::read_chain(start, &digits, list));
+    let out = Out::of(random, length, |list| nettlestair::read_chain(start, &digits, list));
     let (number, difference) = judged(out, corners.as_deref(), 17, need <= length, wrong);
     (number, difference.map(|d| format!("from {start}, {}, room for {length}: {d}", Shown(&digits))))
 }
@@ -275,8 +275,8 @@ fn read_pgm(random: &mut Random, wrong: u32) -> (u32, Option<String>) {
         faults::in_bytes(random, &mut bytes, &[0, 255]);
     }
     let Read { number, n, maxval, start, length } = pgm::read(&bytes);
-    let mut found = library::read_pgm(&bytes);
-    found.start += wrong as usize;
-    let differs = found != Picture { number, n, maxval, start, length };
+    let mut found = nettlestair::read_pgm(&bytes);
+    found.raster.start += wrong as usize;
+    let differs = found != Picture { number, n, maxval, raster: Stretch { start, length } };
     (number, differs.then(|| format!("{}: {found:?}", Shown(&bytes))))
 }

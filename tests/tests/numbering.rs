@@ -6,8 +6,8 @@ use tests::compare::Shown;
 use tests::damage::each_place;
 use tests::expected::{needs, Model};
 use tests::figures;
-use tests::library::Numbered;
 use tests::model::blocks::{quadtree, Blocks};
+use tests::nettlestair::Numbered;
 use tests::random::Random;
 use tests::rasters;
 

@@ -5,8 +5,8 @@ use tests::cases::Cases;
 use tests::compare::Shown;
 use tests::damage::each_place;
 use tests::lent::Entry;
-use tests::library::{self, Stretch};
 use tests::model::paths::{chain, corner, is_cycle_form, read_chain, stretch, svg};
+use tests::nettlestair::{self, Stretch};
 use tests::outlines::{outline, random_outline};
 use tests::random::Random;
 
@@ -19,12 +19,12 @@ fn written(random: &mut Random, corners: &[u32]) {
     let need = 9 + 4 * corners.len();
     assert!(text.len() <= need, "the need suffices: {what}");
     for length in [need, need + 3, need - 1, text.len().min(need - 1), 0] {
-        let out = Out::of(random, length, |list| library::svg(corners, list));
+        let out = Out::of(random, length, |list| nettlestair::svg(corners, list));
         agrees(format_args!("path data, room for {length}, of {what}"), judged(&out, form, 16, need <= length, &text));
     }
     let digits = if form { chain(corners) } else { Vec::new() };
     for length in [digits.len(), digits.len() + 3, digits.len().max(1) - 1, 0] {
-        let out = Out::of(random, length, |list| library::chain(corners, list));
+        let out = Out::of(random, length, |list| nettlestair::chain(corners, list));
         agrees(
             format_args!("chain, room for {length}, of {what}"),
             judged(&out, form, 16, digits.len() <= length, &digits),
@@ -47,7 +47,7 @@ fn read(random: &mut Random, start: u32, digits: &[u8]) {
     let expected = read_chain(start, digits);
     let corners = expected.clone().unwrap_or_default();
     for length in [corners.len(), corners.len() + 3, corners.len().max(1) - 1, 0] {
-        let out = Out::of(random, length, |list| library::read_chain(start, digits, list));
+        let out = Out::of(random, length, |list| nettlestair::read_chain(start, digits, list));
         agrees(
             format_args!("chain read from {start}, room for {length}, of {}", Shown(digits)),
             judged(&out, expected.is_some(), 17, corners.len() <= length, &corners),
@@ -101,7 +101,7 @@ fn every_short_corner_list() {
             let corners: Vec<u32> = (0..length).map(|i| k / 9u32.pow(i) % 9).map(|p| corner(p % 3, p / 3)).collect();
             let form = is_cycle_form(&corners);
             let digits = if form { chain(&corners) } else { Vec::new() };
-            let out = Out::of(&mut random, 12, |list| library::chain(&corners, list));
+            let out = Out::of(&mut random, 12, |list| nettlestair::chain(&corners, list));
             agrees(Shown(&corners), judged(&out, form, 16, true, &digits));
             forms += u32::from(form);
             cases.ran();
@@ -209,7 +209,7 @@ fn every_short_chain() {
             for start in [0, corner(2, 2), corner(256, 256)] {
                 let expected = read_chain(start, &digits);
                 let corners = expected.clone().unwrap_or_default();
-                let out = Out::of(&mut random, 8, |list| library::read_chain(start, &digits, list));
+                let out = Out::of(&mut random, 8, |list| nettlestair::read_chain(start, &digits, list));
                 agrees(Shown(&digits), judged(&out, expected.is_some(), 17, true, &corners));
                 // an accepted chain read and then written gives the same bytes
                 assert!(expected.is_none() || chain(&corners) == digits, "{}", Shown(&digits));
@@ -248,7 +248,7 @@ fn stretches() {
 
 fn cycle(corners: &[u32], ends: &[u32], count: u32, k: u32, cases: &mut Cases) {
     let (start, length) = stretch(corners.len(), ends, count, k);
-    let found = library::cycle(corners, ends, count, k);
+    let found = nettlestair::cycle(corners, ends, count, k);
     assert_eq!(found, Stretch { start, length }, "ends {ends:?}, count {count}, k {k}, {} corners", corners.len());
     cases.ran();
 }
@@ -261,11 +261,12 @@ fn damage_is_seen() {
     for _ in 0..20 {
         let corners = random_outline(&mut random, 3, 9);
         let (text, digits) = (svg(&corners).into_bytes(), chain(&corners));
-        let mut out = Out::of(&mut random, 9 + 4 * corners.len(), |list| library::svg(&corners, list));
+        let mut out = Out::of(&mut random, 9 + 4 * corners.len(), |list| nettlestair::svg(&corners, list));
         each_place(&mut random, &mut cases, &mut out, |o| &mut o.list, &text, |o| o.difference(&text));
-        let mut out = Out::of(&mut random, digits.len(), |list| library::chain(&corners, list));
+        let mut out = Out::of(&mut random, digits.len(), |list| nettlestair::chain(&corners, list));
         each_place(&mut random, &mut cases, &mut out, |o| &mut o.list, &digits, |o| o.difference(&digits));
-        let mut out = Out::of(&mut random, corners.len() + 1, |list| library::read_chain(corners[0], &digits, list));
+        let mut out =
+            Out::of(&mut random, corners.len() + 1, |list| nettlestair::read_chain(corners[0], &digits, list));
         each_place(&mut random, &mut cases, &mut out, |o| &mut o.list, &corners, |o| o.difference(&corners));
         out.written.count += 1;
         assert!(out.difference(&corners).is_some(), "another count");

@@ -4,8 +4,8 @@ use std::collections::BTreeSet;
 use std::hint::black_box;
 use tests::cases::Cases;
 use tests::compare::Shown;
-use tests::library::{read_pgm, Picture};
 use tests::model::pgm::{read, Read};
+use tests::nettlestair::{read_pgm, Picture, Stretch};
 use tests::random::Random;
 
 /// Holds the reader to the model on these bytes, and gives the number.
@@ -13,7 +13,7 @@ fn judged(bytes: &[u8]) -> u32 {
     let Read { number, n, maxval, start, length } = read(bytes);
     let before = bytes.to_vec();
     let found = read_pgm(black_box(bytes));
-    assert_eq!(found, Picture { number, n, maxval, start, length }, "{}", Shown(bytes));
+    assert_eq!(found, Picture { number, n, maxval, raster: Stretch { start, length } }, "{}", Shown(bytes));
     assert_eq!(before, black_box(bytes), "the bytes handed in");
     number
 }
@@ -143,8 +143,8 @@ fn damage_is_seen() {
         Picture { number: 10, ..found },
         Picture { n: 1, ..found },
         Picture { maxval: 254, ..found },
-        Picture { start: found.start - 1, ..found },
-        Picture { length: 0, ..found },
+        Picture { raster: Stretch { start: found.raster.start - 1, ..found.raster }, ..found },
+        Picture { raster: Stretch { length: 0, ..found.raster }, ..found },
     ] {
         assert_ne!(found, other);
         cases.ran();

@@ -2,18 +2,16 @@
 //! worked out by hand from document 01. The program is built by `rt check outlines`.
 
 use std::io::Write;
-use std::path::PathBuf;
 use std::process::{Command, Stdio};
 use tests::cases::Cases;
-use tests::model::outlines::Outlines;
-use tests::model::paths::svg;
-use tests::model::regions::Regions;
+use tests::model::lines;
+use tests::programs::{repository, run};
 use tests::random::Random;
 use tests::rasters;
 
 /// What the program prints for these bytes.
 fn printed(input: &[u8]) -> String {
-    let program = PathBuf::from(concat!(env!("CARGO_MANIFEST_DIR"), "/../target/bin/outlines"));
+    let program = repository("target/bin/outlines");
     let mut child = Command::new(&program)
         .stdin(Stdio::piped())
         .stdout(Stdio::piped())
@@ -52,6 +50,26 @@ fn dials_printed() {
     ];
     for (input, text) in rows {
         assert_eq!(printed(input), *text);
+        cases.ran();
+    }
+    cases.end();
+}
+
+/// What the command bin/outlines says before it builds or runs the program.
+#[test]
+fn messages() {
+    let mut cases = Cases::of("messages of outlines");
+    for (words, status, message) in [
+        (&["no-such.pgm"][..], 2, "outlines: there is no file no-such.pgm\n"),
+        (&["samples"], 2, "outlines: samples is a folder, not a picture\n"),
+        (&["samples/dial-1.pgm", "samples/dial-2.pgm"], 2, "outlines: one picture at a time\n"),
+        (&["--no-such"], 2, "outlines: there is no option --no-such\n"),
+        (&["--help"], 0, ""),
+    ] {
+        let ran = run(repository("bin/outlines"), words);
+        assert_eq!(ran.status, Some(status), "{words:?}");
+        assert!(ran.err.ends_with(message), "{words:?}: {}", ran.err);
+        assert_eq!(ran.out.starts_with("usage: "), status == 0, "{words:?}: {}", ran.out);
         cases.ran();
     }
     cases.end();
@@ -131,22 +149,16 @@ fn largest_pictures_printed() {
     cases.end();
 }
 
-/// Rasters of every kind up to 64 by 64 against the separate tracer: "one line a region: the path data of its cycles joined".
+/// Rasters of every kind up to 64 by 64 against the separate tracer.
 #[test]
 fn rasters_printed() {
     let mut cases = Cases::of("rasters printed");
     let mut random = Random::of("rasters printed");
     for n in 0..=6 {
         for raster in rasters::of_every_kind(&mut random, n) {
-            let regions = Regions::of(n, &raster);
-            let outlines = Outlines::of(&regions);
-            let mut lines = vec![String::new(); regions.count as usize];
-            for k in 0..outlines.len() {
-                lines[outlines.owners[k] as usize] += &svg(outlines.cycle(k));
-            }
-            let text: String = lines.iter().map(|line| line.clone() + "\n").collect();
             let side = 1 << n;
-            assert_eq!(printed(&picture(&format!("P5\n{side} {side}\n255\n"), &raster)), text, "n = {n}");
+            let input = picture(&format!("P5\n{side} {side}\n255\n"), &raster);
+            assert_eq!(printed(&input), lines::printed(&input), "n = {n}");
             cases.ran();
         }
     }

@@ -4,13 +4,10 @@
 use std::fs;
 use std::path::{Path, PathBuf};
 use tests::cases::Cases;
-
-fn repository() -> PathBuf {
-    Path::new(env!("CARGO_MANIFEST_DIR")).join("..")
-}
+use tests::programs::repository;
 
 fn read(path: &str) -> String {
-    fs::read_to_string(repository().join(path)).unwrap_or_else(|e| panic!("{path}: {e}"))
+    fs::read_to_string(repository(path)).unwrap_or_else(|e| panic!("{path}: {e}"))
 }
 
 /// The files of a folder, or none where there is no such folder.
@@ -57,7 +54,7 @@ fn faults_of_functions(cell: &str) -> Vec<String> {
             _ => format!("pub fn {name}"),
         };
         let has = |text: String| text.split(&head).skip(1).any(|rest| rest.starts_with(['(', '<']));
-        let sources = files(&repository().join("crates").join(library).join("src"));
+        let sources = files(&repository("crates").join(library).join("src"));
         !sources.iter().any(|path| fs::read_to_string(path).is_ok_and(has))
     };
     let functions = quoted(cell).into_iter().filter(|word| word.contains("::") || word.starts_with("nettlestair_"));
@@ -67,9 +64,9 @@ fn faults_of_functions(cell: &str) -> Vec<String> {
 /// An edit is a file's name, or its whole path where two crates have one of that name.
 fn faults_of_edits(cell: &str) -> Vec<String> {
     let fault = |word: &str| {
-        let folders = files(&repository().join("crates"));
+        let folders = files(&repository("crates"));
         let count = match word.contains('/') {
-            true => usize::from(repository().join(word).exists()),
+            true => usize::from(repository(word).exists()),
             false => folders.iter().filter(|folder| folder.join("must-fail").join(word).exists()).count(),
         };
         (count != 1).then(|| format!("{word} is in {count} crates"))

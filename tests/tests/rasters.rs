@@ -3,8 +3,8 @@
 use tests::calls::{agrees, raster_from_blocks, BlocksOut};
 use tests::cases::Cases;
 use tests::compare::Shown;
-use tests::library::check;
 use tests::model::blocks::{number, paint, quadtree};
+use tests::nettlestair::check;
 use tests::random::Random;
 use tests::rasters;
 

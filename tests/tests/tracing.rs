@@ -8,9 +8,9 @@ use tests::damage::each_place;
 use tests::expected::{needs, Model};
 use tests::figures::{self, from_corner};
 use tests::lent::Lent;
-use tests::library::{self, Stretch, Traced};
 use tests::model::blocks::{quadtree, Blocks};
 use tests::model::paths::{chain, corner, is_cycle_form, svg, Point};
+use tests::nettlestair::{self, Stretch, Traced};
 use tests::random::Random;
 use tests::rasters;
 
@@ -44,13 +44,13 @@ fn traced(random: &mut Random, n: u32, raster: &[u8], more: [usize; 5]) -> Outli
     let Called { answer, mut lists } = called;
     let [_, _, owners, ends, corners] = lists.each_mut().map(Lent::lend);
     let cycles = (0..answer.cycles).map(|k| {
-        let Stretch { start, length } = library::cycle(corners, ends, answer.cycles, k);
+        let Stretch { start, length } = nettlestair::cycle(corners, ends, answer.cycles, k);
         let stretch = &corners[start..start + length];
         assert_eq!(stretch, model.outlines().cycle(k as usize), "n = {n}, the stretch of cycle {k}");
         stretch.to_vec()
     });
     let outlines = Outlines { cycles: cycles.collect(), owners: owners[..answer.cycles as usize].to_vec() };
-    let none = library::cycle(corners, ends, answer.cycles, answer.cycles);
+    let none = nettlestair::cycle(corners, ends, answer.cycles, answer.cycles);
     assert_eq!(none, Stretch { start: 0, length: 0 }, "there is no cycle after the last");
     outlines
 }
@@ -58,12 +58,12 @@ fn traced(random: &mut Random, n: u32, raster: &[u8], more: [usize; 5]) -> Outli
 /// Writes an outline as path data and as a chain and reads the chain back, all with lists of exactly the need.
 fn written(random: &mut Random, corners: &[u32]) {
     assert!(is_cycle_form(corners), "an outline is a cycle form: {}", Shown(corners));
-    let text = Out::of(random, 9 + 4 * corners.len(), |list| library::svg(corners, list));
+    let text = Out::of(random, 9 + 4 * corners.len(), |list| nettlestair::svg(corners, list));
     agrees(format_args!("path data of {}", Shown(corners)), text.difference(svg(corners).as_bytes()));
     let digits = chain(corners);
-    let out = Out::of(random, digits.len(), |list| library::chain(corners, list));
+    let out = Out::of(random, digits.len(), |list| nettlestair::chain(corners, list));
     agrees(format_args!("chain of {}", Shown(corners)), out.difference(&digits));
-    let back = Out::of(random, corners.len(), |list| library::read_chain(corners[0], &digits, list));
+    let back = Out::of(random, corners.len(), |list| nettlestair::read_chain(corners[0], &digits, list));
     agrees(format_args!("chain of {} read back", Shown(corners)), back.difference(corners));
 }
 
@@ -87,7 +87,7 @@ fn dials() {
     }
     // the chain of dial 1
     let outlines = traced(&mut random, 0, &[9], [0; 5]);
-    let out = Out::of(&mut random, 4, |list| library::chain(&outlines.cycles[0], list));
+    let out = Out::of(&mut random, 4, |list| nettlestair::chain(&outlines.cycles[0], list));
     agrees("the chain of dial 1", out.difference(b"0321"));
     assert_eq!(outlines.cycles[0][0], 0);
     cases.ran();
@@ -145,7 +145,7 @@ fn figures_of_the_papers() {
     let region = outlines.owners.iter().position(|&owner| owner == 1).expect("the figure is region 1 of its array");
     let cycle = &outlines.cycles[region];
     assert_eq!(cycle[0], corner(5, 5), "{figure}");
-    let out = Out::of(&mut random, figures::TABLE_I_CHAIN.len(), |list| library::chain(cycle, list));
+    let out = Out::of(&mut random, figures::TABLE_I_CHAIN.len(), |list| nettlestair::chain(cycle, list));
     agrees(figure, out.difference(figures::TABLE_I_CHAIN));
     cases.ran();
     cases.end();

@@ -1,6 +1,7 @@
 //! A second implementation of document 01, written from its words and apart from the proved code.
 
 pub mod blocks;
+pub mod lines;
 pub mod outlines;
 pub mod paths;
 pub mod pgm;

@@ -1,13 +1,13 @@
-//! The library's functions for Rust, over the C names of `include/nettlestair.h`. Link `target/staticlib/libexports.a`
-//! (`rt staticlib exports`) and take this file into your program as a module.
+//! The functions of libexports.a for Rust, over the C names of `nettlestair.h` beside this file. Take it into a program as a
+//! module and link `target/staticlib/libexports.a` (`rt staticlib exports`); `examples/trace.rs` shows how.
 //!
-//! Each function answers document 01's numbers for bad input of any kind: 0 is acceptance. A refusal is its number with every
-//! count 0, and leaves all lists as they were; a lent list that is shorter than its need is 8. On acceptance the entries after
-//! those that are written stay as they were.
+//! Each function answers document 01's numbers for bad input of any kind; acceptance is number 0. A refusal is its number with
+//! every count 0, and leaves all lists as they were. A lent list that is shorter than its need is 8; a longer one is welcome, and
+//! its entries after those that are written stay as they were.
 
 #![allow(dead_code)]
 
-/// A number, and how many entries were written.
+/// What a function that writes lists answers: its number, and how many entries it wrote.
 #[repr(C)]
 #[derive(Clone, Copy, Debug, PartialEq, Eq)]
 pub struct Written {
@@ -15,7 +15,7 @@ pub struct Written {
     pub count: u32,
 }
 
-/// A number, and how many regions there are.
+/// What numbering answers: its number, and how many regions there are.
 #[repr(C)]
 #[derive(Clone, Copy, Debug, PartialEq, Eq)]
 pub struct Numbered {
@@ -23,7 +23,7 @@ pub struct Numbered {
     pub regions: u32,
 }
 
-/// A number, and how many regions, cycles and corners there are.
+/// What tracing answers: its number, and how many regions, cycles and corners there are.
 #[repr(C)]
 #[derive(Clone, Copy, Debug, PartialEq, Eq)]
 pub struct Traced {
@@ -33,30 +33,29 @@ pub struct Traced {
     pub corners: u32,
 }
 
-/// A number, n, maxval, and the part of the bytes that is the raster; zeros and the empty part in a refusal.
+/// A part of a lent list: its place and its length in entries.
+#[repr(C)]
 #[derive(Clone, Copy, Debug, PartialEq, Eq)]
-pub struct Picture<'a> {
+pub struct Stretch {
+    pub start: usize,
+    pub length: usize,
+}
+
+impl Stretch {
+    /// The part itself, of the list that was lent.
+    pub fn of<T>(self, list: &[T]) -> &[T] {
+        &list[self.start..self.start + self.length]
+    }
+}
+
+/// What a picture is: its number, and on acceptance n, maxval and the part of the bytes that is the raster.
+#[repr(C)]
+#[derive(Clone, Copy, Debug, PartialEq, Eq)]
+pub struct Picture {
     pub number: u32,
     pub n: u32,
     pub maxval: u32,
-    pub raster: &'a [u8],
-}
-
-/// A part of a list as it crosses the C boundary: by place and length.
-#[repr(C)]
-struct Stretch {
-    start: usize,
-    length: usize,
-}
-
-/// A picture as it crosses the C boundary.
-#[repr(C)]
-struct RawPicture {
-    number: u32,
-    n: u32,
-    maxval: u32,
-    start: usize,
-    length: usize,
+    pub raster: Stretch,
 }
 
 extern "C" {
@@ -69,6 +68,7 @@ extern "C" {
         colours: *const u8,
         colours_len: usize,
     ) -> u32;
+
     fn nettlestair_blocks_from_raster(
         n: u32,
         raster: *const u8,
@@ -80,6 +80,7 @@ extern "C" {
         colours: *mut u8,
         colours_len: usize,
     ) -> Written;
+
     fn nettlestair_raster_from_blocks(
         n: u32,
         codes: *const u32,
@@ -91,6 +92,7 @@ extern "C" {
         raster: *mut u8,
         raster_len: usize,
     ) -> Written;
+
     fn nettlestair_number(
         n: u32,
         codes: *const u32,
@@ -104,6 +106,7 @@ extern "C" {
         work: *mut u32,
         work_len: usize,
     ) -> Numbered;
+
     fn nettlestair_trace(
         n: u32,
         codes: *const u32,
@@ -123,6 +126,7 @@ extern "C" {
         corners: *mut u32,
         corners_len: usize,
     ) -> Traced;
+
     fn nettlestair_cycle(
         corners: *const u32,
         corners_len: usize,
@@ -131,8 +135,11 @@ extern "C" {
         count: u32,
         k: u32,
     ) -> Stretch;
+
     fn nettlestair_svg(corners: *const u32, corners_len: usize, text: *mut u8, text_len: usize) -> Written;
+
     fn nettlestair_chain(corners: *const u32, corners_len: usize, chain: *mut u8, chain_len: usize) -> Written;
+
     fn nettlestair_read_chain(
         start: u32,
         chain: *const u8,
@@ -140,13 +147,14 @@ extern "C" {
         corners: *mut u32,
         corners_len: usize,
     ) -> Written;
-    fn nettlestair_read_pgm(bytes: *const u8, bytes_len: usize) -> RawPicture;
+
+    fn nettlestair_read_pgm(bytes: *const u8, bytes_len: usize) -> Picture;
 }
 
-// In each call each pointer comes with the length of its slice, and the borrow checker keeps a list that is written to apart
-// from every other.
+// Each call is sound: a pointer comes with the length of its slice, and the borrow checker keeps a list that is written to
+// apart from every other.
 
-/// The number of a block list of an image of side 2^n: 0 where it is accepted, else 1 to 7. The lists are equally long.
+/// The number of a block list of an image of side 2^n: 0 where it is accepted, else 1 to 7.
 pub fn check(n: u32, codes: &[u32], levels: &[u8], colours: &[u8]) -> u32 {
     unsafe {
         nettlestair_check(
@@ -161,7 +169,8 @@ pub fn check(n: u32, codes: &[u32], levels: &[u8], colours: &[u8]) -> u32 {
     }
 }
 
-/// The merged block list of a raster of 4^n entries, row by row: 0, or 1, 9, 8. Needs 4^n entries in each of the three lists.
+/// The merged block list of a raster (row by row, north row first) of 4^n entries: 0, or 1, 9, 8. Each of the three lists has
+/// room for 4^n entries.
 pub fn blocks_from_raster(n: u32, raster: &[u8], codes: &mut [u32], levels: &mut [u8], colours: &mut [u8]) -> Written {
     unsafe {
         nettlestair_blocks_from_raster(
@@ -178,7 +187,7 @@ pub fn blocks_from_raster(n: u32, raster: &[u8], codes: &mut [u32], levels: &mut
     }
 }
 
-/// The raster of a block list: 0, or 1 to 8. Needs 4^n entries in the raster.
+/// The raster of a block list: 0, or 1 to 8. The raster has room for 4^n entries.
 pub fn raster_from_blocks(n: u32, codes: &[u32], levels: &[u8], colours: &[u8], raster: &mut [u8]) -> Written {
     unsafe {
         nettlestair_raster_from_blocks(
@@ -195,7 +204,8 @@ pub fn raster_from_blocks(n: u32, codes: &[u32], levels: &[u8], colours: &[u8], 
     }
 }
 
-/// The region number of each block: 0, or 1 to 8. Needs one label a block and 2 times 4^n entries of work, which end as 0.
+/// The region number of each block, at its place in the labels, and how many regions there are: 0, or 1 to 8. The labels have
+/// room for one entry a block, the work list for 2 times 4^n; on acceptance that many of its entries are 0.
 pub fn number(n: u32, codes: &[u32], levels: &[u8], colours: &[u8], labels: &mut [u32], work: &mut [u32]) -> Numbered {
     unsafe {
         nettlestair_number(
@@ -214,7 +224,9 @@ pub fn number(n: u32, codes: &[u32], levels: &[u8], colours: &[u8], labels: &mut
     }
 }
 
-/// The outlines of all regions: 0, or 1 to 8. Needs what `number` needs, 4^n owners, 4^n ends and 4 times 4^n corners.
+/// The outlines of all regions: 0, or 1 to 8. Labels and work list are as for `number`. For each cycle the owners hold its region
+/// and the ends the index after its last corner; the corners, y times 512 plus x each, stand cycle after cycle. Owners and ends
+/// have room for 4^n entries each, the corners for 4 times 4^n.
 #[allow(clippy::too_many_arguments)]
 pub fn trace(
     n: u32,
@@ -250,30 +262,28 @@ pub fn trace(
     }
 }
 
-/// The corners of cycle k, as the very part of the corner list that holds them; the empty part where there is no such cycle.
-pub fn cycle<'a>(corners: &'a [u32], ends: &[u32], count: u32, k: u32) -> &'a [u32] {
-    let Stretch { start, length } =
-        unsafe { nettlestair_cycle(corners.as_ptr(), corners.len(), ends.as_ptr(), ends.len(), count, k) };
-    &corners[start..start + length]
+/// Where the corners of cycle k stand in a corner list, by an end list and a cycle count; the empty part at 0 where there are
+/// none.
+pub fn cycle(corners: &[u32], ends: &[u32], count: u32, k: u32) -> Stretch {
+    unsafe { nettlestair_cycle(corners.as_ptr(), corners.len(), ends.as_ptr(), ends.len(), count, k) }
 }
 
-/// One outline as SVG path data: 0, or 16, 8. Needs 9 bytes and 4 a corner.
+/// One outline as SVG path data: 0, or 16, 8. The text has room for 9 bytes and 4 a corner. A corner is y times 512 plus x.
 pub fn svg(corners: &[u32], text: &mut [u8]) -> Written {
     unsafe { nettlestair_svg(corners.as_ptr(), corners.len(), text.as_mut_ptr(), text.len()) }
 }
 
-/// One outline as a chain code: 0, or 16, 8. Needs one byte a unit edge.
+/// One outline as a chain code: 0, or 16, 8. The chain has room for one byte a unit edge.
 pub fn chain(corners: &[u32], chain: &mut [u8]) -> Written {
     unsafe { nettlestair_chain(corners.as_ptr(), corners.len(), chain.as_mut_ptr(), chain.len()) }
 }
 
-/// The corners of a chain code from its start corner: 0, or 17, 8. Needs one entry a corner.
+/// The corners of a chain code from its start corner: 0, or 17, 8. The list has room for them.
 pub fn read_chain(start: u32, chain: &[u8], corners: &mut [u32]) -> Written {
     unsafe { nettlestair_read_chain(start, chain.as_ptr(), chain.len(), corners.as_mut_ptr(), corners.len()) }
 }
 
-/// Binary PGM: 0, or 10 to 14. The raster is the very part of the bytes that holds it.
-pub fn read_pgm(bytes: &[u8]) -> Picture<'_> {
-    let RawPicture { number, n, maxval, start, length } = unsafe { nettlestair_read_pgm(bytes.as_ptr(), bytes.len()) };
-    Picture { number, n, maxval, raster: &bytes[start..start + length] }
+/// Binary PGM: 0, or 10 to 14 with zeros and the empty part at 0.
+pub fn read_pgm(bytes: &[u8]) -> Picture {
+    unsafe { nettlestair_read_pgm(bytes.as_ptr(), bytes.len()) }
 }
