@@ -1,12 +1,13 @@
 -- The staircase: which cells of an image with a margin are done.
 use mathlib.Core.Path.{_≡_, refl, ap, _∙_}
 use mathlib.Core.Logic.{_⊎_, inl, inr}
-use mathlib.Core.Bool.{Bool, true, false, _&&_, false≢true}
+use mathlib.Core.Bool.{Bool, true, false, _&&_}
 use Prim.Native.Nat.{ℕ, zero, suc, _^_, _≤_, _<_}
 use native.Mathlib.Nat.{eq-or-lt-of-le}
 use native.Mathlib.Omega.{arith}
 use lib.Dec.{ltb}
 use borrow.Author.Tests.{ltb-true, lt-ltb, le-ltb}
+use Rattle.sequences.specs.Cases.{and-both}
 use Rattle.location.specs.Codes.{code}
 use Rattle.location.specs.Interleaving.{code-grows-in-x, code-grows-in-y}
 
@@ -17,6 +18,11 @@ unfoldable pub done : ℕ → ℕ → ℕ → ℕ → Bool
 done n d zero row = true
 done n d (suc x) zero = true
 done n d (suc x) (suc y) = ltb x (2 ^ n) && (ltb y (2 ^ n) && ltb (code n x y) d)
+
+-- Of four pixels, whose cells are (1, 1), (2, 1), (1, 2) and (2, 2), the first is done.
+first-pixel-done : (done 1 1 1 1 ≡ true) × (done 1 1 2 1 ≡ false) × (done 1 1 1 2 ≡ false) × (done 1 1 2 2 ≡ false)
+unfolding done code
+first-pixel-done = (refl, refl, refl, refl)
 
 pub done-west : (n d row : ℕ) → done n d 0 row ≡ true
 unfolding done
@@ -43,15 +49,11 @@ pub record DonePixel (n d x y : ℕ) : Type 0 where
   pub inRow : y < 2 ^ n
   pub below : code n x y < d
 
-both : (s t : Bool) → (s && t) ≡ true → (s ≡ true) × (t ≡ true)
-both true t h = (refl, h)
-both false t h = absurd (false≢true h)
-
 pub done-inside : (n d x y : ℕ) → done n d (suc x) (suc y) ≡ true → DonePixel n d x y
 unfolding done
 done-inside n d x y h =
-    let outer = both (ltb x (2 ^ n)) (ltb y (2 ^ n) && ltb (code n x y) d) h in
-    let inner = both (ltb y (2 ^ n)) (ltb (code n x y) d) (outer .1) in
+    let outer = and-both (ltb x (2 ^ n)) (ltb y (2 ^ n) && ltb (code n x y) d) h in
+    let inner = and-both (ltb y (2 ^ n)) (ltb (code n x y) d) (outer .1) in
     record { inColumn = ltb-true x (2 ^ n) (outer .0); inRow = ltb-true y (2 ^ n) (inner .0); below = ltb-true (code n x y) d (inner .1) }
 
 pub pixel-done : (n d x y : ℕ) → DonePixel n d x y → done n d (suc x) (suc y) ≡ true

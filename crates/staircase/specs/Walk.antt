@@ -8,6 +8,7 @@ use Prim.Native.Nat.{ℕ, zero, suc, _+_, _-_, _*_, _≤_, _<_}
 use native.Mathlib.Nat.{eq-or-lt-of-le}
 use native.Mathlib.Omega.{arith}
 use lib.ListN.{length}
+use lib.Dec.{eqb}
 use Rattle.staircase.specs.Edges.{Direction, east, north, Edge, eastFrom, northFrom, endX, endY, leftCell, rightCell, SideOf, Border, Leads, OnePath}
 
 -- A test of cells is a staircase in an image of side w: done north and west of it, not done east and south, and with a cell every
@@ -23,6 +24,12 @@ pub record Stairs (w : ℕ) (done : ℕ → ℕ → Bool) : Type 0 where
 unfoldable pub walk : (ℕ → ℕ → Bool) → ℕ → ℕ → ℕ → List Edge
 walk done zero x y = []
 walk done (suc k) x y = elim (done (suc x) y) [ true ↦ eastFrom x y ∷ walk done k (suc x) y | false ↦ northFrom x y ∷ walk done k x (y - 1) ]
+
+-- Round a pixel that is not done: north along its west side, then east along its north side. Its cell is (1, 1), and the cells of
+-- column 0 and of row 0 are done.
+round-one-pixel : walk (λ column row. eqb (column * row) 0) 2 0 1 ≡ northFrom 0 1 ∷ eastFrom 0 0 ∷ []
+unfolding walk
+round-one-pixel = refl
 
 walk-east : (done : ℕ → ℕ → Bool) (k x y : ℕ) → done (suc x) y ≡ true → walk done (suc k) x y ≡ eastFrom x y ∷ walk done k (suc x) y
 unfolding walk

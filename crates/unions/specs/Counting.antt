@@ -18,6 +18,11 @@ unfoldable pub below : (ℕ → ℕ) → ℕ → ℕ
 below r zero = 0
 below r (suc k) = elim (eqb (r k) k) [ true ↦ suc (below r k) | false ↦ below r k ]
 
+-- Of three numbers that all have the representative 0, one represents itself.
+one-represents-three : below (λ i. 0) 3 ≡ 1
+unfolding below
+one-represents-three = refl
+
 -- The number of i's class: how many representatives lie below its own.
 unfoldable pub numberOf : (ℕ → ℕ) → ℕ → ℕ
 unfolding below
