@@ -1,7 +1,8 @@
 /* The functions of libexports.a. A lent list passes as a pointer, which is not null, and its length in entries; a list that is
    written to overlaps no other list of the call. Each function answers document 01's numbers for bad input of any kind, touches
    nothing outside the lists that it is lent, and comes to its end. A refusal is its number with every count 0, and leaves all
-   lists as they were; acceptance is number 0. */
+   lists as they were; acceptance is number 0. A list that is shorter than its need is 8; a longer one is welcome, and its entries
+   after those that are written stay as they were. */
 #ifndef NETTLESTAIR_H
 #define NETTLESTAIR_H
 
@@ -52,27 +53,26 @@ uint32_t nettlestair_check(uint32_t n, const uint32_t *codes, size_t codes_len, 
                            const uint8_t *colours, size_t colours_len);
 
 /* The merged block list of a raster (row by row, north row first) of 4^n entries: 0, or 1, 9, 8. Each of the three lists has
-   room for 4^n entries; those after the count stay as they were. */
+   room for 4^n entries. */
 struct nettlestair_written nettlestair_blocks_from_raster(uint32_t n, const uint8_t *raster, size_t raster_len,
                                                           uint32_t *codes, size_t codes_len, uint8_t *levels,
                                                           size_t levels_len, uint8_t *colours, size_t colours_len);
 
-/* The raster of a block list: 0, or 1 to 8. The raster has room for 4^n entries; those after the count stay as they were. */
+/* The raster of a block list: 0, or 1 to 8. The raster has room for 4^n entries. */
 struct nettlestair_written nettlestair_raster_from_blocks(uint32_t n, const uint32_t *codes, size_t codes_len,
                                                           const uint8_t *levels, size_t levels_len,
                                                           const uint8_t *colours, size_t colours_len, uint8_t *raster,
                                                           size_t raster_len);
 
 /* The region number of each block, at its place in the labels, and how many regions there are: 0, or 1 to 8. The labels have
-   room for one entry a block, the work list for 2 times 4^n; on acceptance that many of its entries are 0. What follows in either
-   list stays as it was. */
+   room for one entry a block, the work list for 2 times 4^n; on acceptance that many of its entries are 0. */
 struct nettlestair_numbered nettlestair_number(uint32_t n, const uint32_t *codes, size_t codes_len, const uint8_t *levels,
                                                size_t levels_len, const uint8_t *colours, size_t colours_len,
                                                uint32_t *labels, size_t labels_len, uint32_t *work, size_t work_len);
 
 /* The outlines of all regions: 0, or 1 to 8. Labels and work list are as for nettlestair_number. For each cycle the owners hold
    its region and the ends the index after its last corner; the corners, y times 512 plus x each, stand cycle after cycle. Owners
-   and ends have room for 4^n entries each, the corners for 4 times 4^n; those after the counts stay as they were. */
+   and ends have room for 4^n entries each, the corners for 4 times 4^n. */
 struct nettlestair_traced nettlestair_trace(uint32_t n, const uint32_t *codes, size_t codes_len, const uint8_t *levels,
                                             size_t levels_len, const uint8_t *colours, size_t colours_len,
                                             uint32_t *labels, size_t labels_len, uint32_t *work, size_t work_len,
@@ -89,11 +89,11 @@ struct nettlestair_written nettlestair_svg(const uint32_t *corners, size_t corne
 /* One outline as a chain code: 0, or 16, 8. The chain has room for one byte a unit edge. */
 struct nettlestair_written nettlestair_chain(const uint32_t *corners, size_t corners_len, uint8_t *chain, size_t chain_len);
 
-/* The corners of a chain code from its start corner: 0, or 17, 8. The list has room for them. */
+/* The corners of a chain code from its start corner, y times 512 plus x: 0, or 17, 8. The list has room for them. */
 struct nettlestair_written nettlestair_read_chain(uint32_t start, const uint8_t *chain, size_t chain_len,
                                                   uint32_t *corners, size_t corners_len);
 
-/* Binary PGM: 0, or 10 to 14 with zeros. */
+/* Reads a binary PGM of any length: 0, or 10 to 14 with zeros. The raster is the `length` = 4^n bytes from `start` on. */
 struct nettlestair_picture nettlestair_read_pgm(const uint8_t *bytes, size_t bytes_len);
 
 #ifdef __cplusplus

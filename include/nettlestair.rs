@@ -278,12 +278,12 @@ pub fn chain(corners: &[u32], chain: &mut [u8]) -> Written {
     unsafe { nettlestair_chain(corners.as_ptr(), corners.len(), chain.as_mut_ptr(), chain.len()) }
 }
 
-/// The corners of a chain code from its start corner: 0, or 17, 8. The list has room for them.
+/// The corners of a chain code from its start corner, y times 512 plus x: 0, or 17, 8. The list has room for them.
 pub fn read_chain(start: u32, chain: &[u8], corners: &mut [u32]) -> Written {
     unsafe { nettlestair_read_chain(start, chain.as_ptr(), chain.len(), corners.as_mut_ptr(), corners.len()) }
 }
 
-/// Binary PGM: 0, or 10 to 14 with zeros and the empty part at 0.
+/// Reads a binary PGM of any length: 0, or 10 to 14 with zeros and the empty part at 0. The raster is 4^n bytes of it.
 pub fn read_pgm(bytes: &[u8]) -> Picture {
     unsafe { nettlestair_read_pgm(bytes.as_ptr(), bytes.len()) }
 }

@@ -1,4 +1,5 @@
-//! Document 01's "Dials to try", without those that trace or print.
+//! Document 01's "Dials to try": the number of each block list, and its raster. tracing.rs has the outlines, program.rs the printed
+//! lines.
 
 use tests::calls::{agrees, raster_from_blocks};
 use tests::cases::Cases;

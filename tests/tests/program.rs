@@ -75,6 +75,31 @@ fn messages() {
     cases.end();
 }
 
+/// What the command bin/outlines prints for files, and the words that it adds to a refusal.
+#[test]
+fn files() {
+    let mut cases = Cases::of("files of outlines");
+    for (name, out, words) in [
+        ("samples/dial-2.pgm", "M0 0H4V2H2V1H1V2H2V4H0Z\nM1 1H2V2H1Z\nM2 2H4V4H2Z\n", ""),
+        ("samples/refused-10.pgm", "refused 10\n", "it begins with P2, another kind of Netpbm picture"),
+        ("crates.txt", "refused 10\n", "it does not begin with P5"),
+        ("samples/refused-11.pgm", "refused 11\n", "the picture is 3 by 2: "),
+        ("samples/refused-12.pgm", "refused 12\n", "maxval is 256: "),
+        ("samples/refused-13.pgm", "refused 13\n", "the raster is not exactly 2 times 2 bytes: "),
+        ("samples/refused-14.pgm", "refused 14\n", "a sample is above maxval, which is 9"),
+        ("samples/clock-256.pgm", "refused 15\n", "the input has more than 8,192 bytes: "),
+    ] {
+        let ran = run(repository("bin/outlines"), &[name]);
+        assert_eq!(ran.out, out, "{name}: {}", ran.err);
+        assert_eq!(ran.status, Some(if words.is_empty() { 0 } else { 1 }), "{name}");
+        let said = ran.err.lines().last().unwrap_or("");
+        let refusal = said.starts_with(&format!("outlines: {name} is refused: ")) && said.contains(words);
+        assert!(refusal != words.is_empty(), "{name}: {said}");
+        cases.ran();
+    }
+    cases.end();
+}
+
 /// A refusal of each kind from 10 to 15, and which of two comes first.
 #[test]
 fn refusals_printed() {

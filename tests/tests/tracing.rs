@@ -135,6 +135,7 @@ fn figures_of_the_papers() {
     ];
     for ((figure, n, raster), printed) in figures::all().into_iter().zip(printed) {
         let outlines = traced(&mut random, n, &raster, [2; 5]);
+        assert!(printed.len() <= outlines.cycles.len(), "{figure}");
         for (cycle, printed) in outlines.cycles.iter().zip(printed) {
             assert_eq!(*cycle, from_corner(printed, cycle[0]), "{figure}");
             cases.ran();

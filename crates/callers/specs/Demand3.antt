@@ -38,7 +38,7 @@ use Rattle.grid.specs.Pinches.{meeting-turns-right}
 use Rattle.paths.specs.Stretch.{stretchOf}
 use Rattle.regions.specs.Promise.{Numbering, count-accepted, count-refused, numbered}
 use Rattle.regions.specs.Callers.{labelOfPixel, labels-by-least-codes}
-use Rattle.tracing.specs.Tracing.{Lent, tracingNumber, outlinesOf, cyclesWritten, labelsLeft, zerosLeft, regionsListed, Tracing, Needs, needs-met}
+use Rattle.tracing.specs.Tracing.{Lent, tracingNumber, outlinesOf, cyclesWritten, labelsLeft, zerosLeft, regionsListed, Tracing, Needs, needs-met, none-short}
 use Rattle.tracing.specs.declared.Traced.{Traced}
 use Rattle.callers.specs.Reading.{cyclesHeld, stretch-is-cycle, cycles-read-back}
 
@@ -63,6 +63,7 @@ pub record RuleOfSteps (m : ℕ → ℕ → ℕ) (r : ℕ) : Type 0 where
   pub equal-or-apart : (a b : ℕ) → Edge m r a → Edge m r b
       → ((c : ℕ) → In c (cycleFrom m a) ↔ In c (cycleFrom m b)) ⊎ ((c : ℕ) → In c (cycleFrom m a) → In c (cycleFrom m b) → ⊥)
 
+-- What an accepted tracing answers, and what it leaves in the lists, which were lent as `before` and are `after` now.
 pub record AtExit (n : ℕ) (cs ls ks : List ℕ) (before after : Lent) (r : Traced) : Type 0 where
   -- "exactly the counts of regions, cycles and corners"
   pub region-count : r .regions ≡ regions n (paint (blocks cs ls ks))
@@ -74,7 +75,10 @@ pub record AtExit (n : ℕ) (cs ls ks : List ℕ) (before after : Lent) (r : Tra
   pub few-corners : r .corners ≤ 4 * 4 ^ n
   -- the labels at exit give each pixel its region number
   pub numbers-by-labels : tabulate (4 ^ n) (labelOfPixel (blocks cs ls ks) (after .labelList)) ≡ numbersOf n cs ls ks
-  -- the lists hold the listing: owners, ends and corners as defined
+  -- "its owner, end and corner entries up to those counts equal those defined", so the lists hold the listing
+  pub owners-listed : (k : ℕ) → k < r .cycles → getD (after .ownerList) k 0 ≡ getD (owners (outlinesOf n cs ls ks)) k 0
+  pub ends-listed : (k : ℕ) → k < r .cycles → getD (after .endList) k 0 ≡ getD (ends (outlinesOf n cs ls ks)) k 0
+  pub corners-listed : (i : ℕ) → i < r .corners → getD (after .cornerList) i 0 ≡ getD (allCorners (outlinesOf n cs ls ks)) i 0
   pub lists : heldAt after r ≡ outlinesOf n cs ls ks
   -- the rule of steps in each region
   pub rule : (v : ℕ) → RuleOfSteps (regionAt n (numbersOf n cs ls ks)) (suc v)
@@ -82,16 +86,20 @@ pub record AtExit (n : ℕ) (cs ls ks : List ℕ) (before after : Lent) (r : Tra
   pub outlines : OutlinesListed n (numbersOf n cs ls ks) (heldAt after r) (startsOf n cs ls ks)
   -- each side between a region and what is not that region in exactly one of its outlines, once, and nothing else
   pub sides : SidesOnce (regionAt n (numbersOf n cs ls ks)) (heldAt after r)
-  -- the stretch of cycle k is exactly the corners of the k-th cycle, from its start, and a cycle form
+  -- the stretch of cycle k is exactly the corners of the k-th cycle, from its start
   pub stretch : (k : ℕ) → k < r .cycles
       → stretchOf (after .cornerList) (after .endList) (r .cycles) k ≡ corners (cycle n (numbersOf n cs ls ks) (getD (startsOf n cs ls ks) k 0))
+  -- its unit sides are the edges that the rule runs through from its start, in their order
+  pub walked : (k : ℕ) → k < r .cycles
+      → outline (stretchOf (after .cornerList) (after .endList) (r .cycles) k) ≡ cycle n (numbersOf n cs ls ks) (getD (startsOf n cs ls ks) k 0)
+  -- it is a cycle form
   pub cycle-form : (k : ℕ) → k < r .cycles → cycleForm (stretchOf (after .cornerList) (after .endList) (r .cycles) k) ≡ true
   -- the first cycle of a region is its outer one; every region has one
   pub outer : (k : ℕ) → k < r .cycles → ((j : ℕ) → j < k → getD (after .ownerList) j 0 ≢ getD (after .ownerList) k 0)
       → OuterAt n (numbersOf n cs ls ks) (heldAt after r) k (getD (startsOf n cs ls ks) k 0)
   pub each-region : (v : ℕ) → v < r .regions
       → (k : ℕ) × (k < r .cycles) × (getD (after .ownerList) k 0 ≡ v) × ((j : ℕ) → j < k → getD (after .ownerList) j 0 ≢ getD (after .ownerList) k 0)
-  -- an outline that meets itself at a point turns right there
+  -- an outline that meets itself at a point turns right there: the edge after its side i does, which by `walked` is its next side
   pub meeting : (k i j : ℕ) → k < r .cycles → i < length (outline (pointsAt (heldAt after r) k)) → j < length (outline (pointsAt (heldAt after r) k)) → i ≢ j
       → head (getD (outline (pointsAt (heldAt after r) k)) i 0) ≡ head (getD (outline (pointsAt (heldAt after r) k)) j 0)
       → digit (step (regionAt n (numbersOf n cs ls ks)) (getD (outline (pointsAt (heldAt after r) k)) i 0)) ≡ rightOf (digit (getD (outline (pointsAt (heldAt after r) k)) i 0))
@@ -107,7 +115,12 @@ module _ {n : ℕ} {cs ls ks : List ℕ} {before after : Lent} {r : Traced} (p :
   number-answered : r .number ≡ tracingNumber n cs ls ks before
   number-answered = ap (λ (a : Traced). a .number) (p .answer)
 
-  -- An accepted list with long enough lists is never refused, and a refusal leaves all lists.
+  -- An accepted list, with lent lists of at least the stated lengths, is never refused, whatever stood in them before.
+  pub not-refused : Needs n cs ls ks before → r .number ≡ 0
+  not-refused m =
+      number-answered ∙ sym (none-short n cs ls ks before (m .accepted) (m .for-labels) (m .for-work) (m .for-owners) (m .for-ends) (m .for-corners))
+
+  -- A refusal has counts 0 and leaves all lists.
   pub refusal-leaves-all : (r .number ≡ 0 → ⊥) → (r .regions ≡ 0) × (r .cycles ≡ 0) × (r .corners ≡ 0) × (after ≡ before)
   unfolding cyclesWritten labelsLeft zerosLeft regionsListed cycleCount cornerCount owners ends allCorners
   refusal-leaves-all h =
@@ -213,11 +226,18 @@ module _ {n : ℕ} {cs ls ks : List ℕ} {before after : Lent} {r : Traced} (p :
     known : (c : ℕ) → c < 4 ^ n → getD (numbersOf n cs ls ks) c 0 < regions n (paint (blocks cs ls ks))
     known c h = number-below-regions n (paint (blocks cs ls ks)) c h
 
-    end-is-count : (k : ℕ) → suc k ≡ r .cycles → getD (after .endList) k 0 ≡ r .corners
-    end-is-count k e =
+    end-is : (k : ℕ) → k < r .cycles → getD (after .endList) k 0 ≡ getD (ends (outlinesOf n cs ls ks)) k 0
+    end-is k h =
         ap (λ (es : List ℕ). getD es k 0) ends-are
         ∙ over-inside (ends (outlinesOf n cs ls ks)) (before .endList) k (omega (arith, length-ends (outlinesOf n cs ls ks), cycles-are))
-        ∙ last-end (outlinesOf n cs ls ks) k (e ∙ cycles-are) ∙ sym corners-are
+
+    end-is-count : (k : ℕ) → suc k ≡ r .cycles → getD (after .endList) k 0 ≡ r .corners
+    end-is-count k e = end-is k (omega (arith, e)) ∙ last-end (outlinesOf n cs ls ks) k (e ∙ cycles-are) ∙ sym corners-are
+
+    corner-is : (i : ℕ) → i < r .corners → getD (after .cornerList) i 0 ≡ getD (allCorners (outlinesOf n cs ls ks)) i 0
+    unfolding cornerCount
+    corner-is i h =
+        ap (λ (ps : List ℕ). getD ps i 0) points-are ∙ over-inside (allCorners (outlinesOf n cs ls ks)) (before .cornerList) i (omega (arith, corners-are))
 
     first-outer : (k : ℕ) → k < r .cycles → ((j : ℕ) → j < k → getD (after .ownerList) j 0 ≢ getD (after .ownerList) k 0)
         → OuterAt n (numbersOf n cs ls ks) (outlinesOf n cs ls ks) k (getD (startsOf n cs ls ks) k 0)
@@ -267,6 +287,10 @@ module _ {n : ℕ} {cs ls ks : List ℕ} {before after : Lent} {r : Traced} (p :
     unfolding outlinesOf
     points-are-corners k h = points-at n (numbersOf n cs ls ks) (regions n (paint (blocks cs ls ks))) k (omega (arith, starts-long))
 
+    sides-are-cycle : (k : ℕ) → k < length (outlinesOf n cs ls ks) → outline (pointsAt (outlinesOf n cs ls ks) k) ≡ cycle n (numbersOf n cs ls ks) (getD (startsOf n cs ls ks) k 0)
+    unfolding outlinesOf
+    sides-are-cycle k h = outline-at n (numbersOf n cs ls ks) (regions n (paint (blocks cs ls ks))) small k h
+
     form : (k : ℕ) → k < length (outlinesOf n cs ls ks) → cycleForm (pointsAt (outlinesOf n cs ls ks) k) ≡ true
     unfolding outlinesOf
     form k h = listed-is-cycle-form n (numbersOf n cs ls ks) (regions n (paint (blocks cs ls ks))) small k h
@@ -302,11 +326,15 @@ module _ {n : ℕ} {cs ls ks : List ℕ} {before after : Lent} {r : Traced} (p :
       numbers-by-labels =
           no-other-by-least-codes n (paint (blocks cs ls ks)) (tabulate (4 ^ n) (labelOfPixel (blocks cs ls ks) (after .labelList))) (r .regions)
           (labels-by-least-codes as-numbering refl) .0;
+      owners-listed = owner-is;
+      ends-listed = end-is;
+      corners-listed = corner-is;
       lists = lists-hold-the-listing;
       rule = rule-of-steps;
       outlines = subst (λ (c : List Cycle). OutlinesListed n (numbersOf n cs ls ks) c (startsOf n cs ls ks)) (sym lists-hold-the-listing) listed;
       sides = subst (SidesOnce (regionAt n (numbersOf n cs ls ks))) (sym lists-hold-the-listing) once;
       stretch = λ k h. stretch-is k h ∙ points-are-corners k (omega (arith, cycles-are));
+      walked = λ k h. ap outline (stretch-is k h) ∙ sides-are-cycle k (omega (arith, cycles-are));
       cycle-form = λ k h. ap cycleForm (stretch-is k h) ∙ form k (omega (arith, cycles-are));
       outer = λ k h first. subst (λ (c : List Cycle). OuterAt n (numbersOf n cs ls ks) c k (getD (startsOf n cs ls ks) k 0)) (sym lists-hold-the-listing) (first-outer k h first);
       each-region = region-first;

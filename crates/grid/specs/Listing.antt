@@ -42,10 +42,12 @@ pub record Cycle : Type 0 where
   pub region : ℕ
   pub points : List ℕ
 
+-- The cycle that starts at the pixel with the code c.
 unfoldable pub cycleAt : ℕ → List ℕ → ℕ → Cycle
 unfolding corners cycle
 cycleAt n nums c = record { region = getD nums c 0; points = corners (cycle n nums c) }
 
+-- All cycles of the first `regions` regions, in the order of their start codes.
 unfoldable pub listing : ℕ → List ℕ → ℕ → List Cycle
 unfolding startCodes cycleAt
 listing n nums regions = map (cycleAt n nums) (startCodes n nums regions)

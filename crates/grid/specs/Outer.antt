@@ -74,7 +74,7 @@ module _ (n : ℕ) (nums : List ℕ) (small : n ≤ 8) where
             p .least (codeRight n a) (w .below) (omega (arith, w .number));
       }
 
--- The cycle k of a list is the first of its owner, and the outer one: c is the least pixel of the owner, the outline begins with
+-- The cycle k of a list is the outer one of its owner: c is the least pixel of the owner, the outline begins with
 -- its north side, and no pixel straight north of it is in the region.
 pub record OuterAt (n : ℕ) (nums : List ℕ) (l : List Cycle) (k c : ℕ) : Type 0 where
   pub in-region : getD nums c 0 ≡ getD (owners l) k 0

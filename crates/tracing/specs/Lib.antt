@@ -1,4 +1,4 @@
--- The map of regions with its marks, and the walk along one cycle.
+-- The map of regions with its marks, the walk along one cycle, the listing, and what the tracing promises.
 pub mod Mapped
 pub mod Promise
 pub mod Look

@@ -25,12 +25,12 @@ use Rattle.tracing.specs.Rule.{Way, way}
 use Rattle.tracing.specs.Points.{EdgeAt}
 use Rattle.tracing.specs.Straight.{Straight, turning, straight-on, Gone}
 
--- The corners of the cycle through the edge s of a map, where s turns.
+-- The corners of the cycle through the edge s of a map, whose direction differs from that of the edge before.
 unfoldable pub cornersFrom : (ℕ → ℕ → ℕ) → ℕ → List ℕ
 unfolding tail digit turns others
 cornersFrom m s = tail s ∷ turns (digit s) (others m s)
 
--- The edge s of the region r turns, and there is room for the corners of its cycle.
+-- The direction of the edge s of the region r differs from that of the edge before, and there is room for the corners of its cycle.
 pub record Ready (side r s : ℕ) (map out : List ℕ) : Type 0 where
   pub square : Square side map
   pub on-region : Edge (mapAt side map) r s
@@ -51,7 +51,8 @@ unfoldable pub rest : (ℕ → ℕ → ℕ) → ℕ → ℕ → List ℕ
 unfolding until step
 rest m s e = until 526336 (step m) s e
 
--- Before the edge e is done: d was the digit before it (4: none), and `used` corners are written.
+-- Before the edge e is done: `used` corners are written, and one is due at the tail of e where d is not its digit. d is the digit before
+-- it, 4 at the start, and e's own once its corner is written.
 pub record Going (side r s : ℕ) (map₀ out₀ map out : List ℕ) (used d e : ℕ) : Type 0 where
   pub left : ℕ
   pub ahead : Ahead (step (mapAt side map₀)) s (step (mapAt side map₀) e) left

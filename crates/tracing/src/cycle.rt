@@ -65,7 +65,8 @@ fn run(map: &mut [u32], side: u32, r: u32, x: u32, y: u32, d: u8) -> Edge
     }
 }
 
-// Walks the cycle of the region r from the eastward edge at (column, row), which turns; gives the number of corners written.
+// Walks the cycle of the region r from the eastward edge at (column, row), whose direction differs from that of the edge before; gives the
+// number of corners written.
 fn walk(map: &mut [u32], side: u32, r: u32, column: u32, row: u32, corners: &mut [u32]) -> usize
     requires { ⌜ Ready side r (edge (point column row) 0) (now map) (now corners) × (column < 512) ⌝ }
     ensures { λ k. ⌜ Walked side r (edge (point column row) 0) (now (map .entry)) (now (corners .entry)) (now (map .exit)) (now (corners .exit)) k ⌝ }

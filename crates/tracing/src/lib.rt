@@ -83,7 +83,7 @@ fn outline(
     counts
 }
 
-// The outlines of all regions of a block list: labels, owners, ends and corners, and how many of each there are. The numbering checks the
+// The outlines of all regions of a block list: labels, owners, ends and corners, and the counts of regions, cycles and corners. The numbering checks the
 // block list; where a lent list is too short nothing is numbered, and the check tells whether a cause before 8 applies.
 pub fn trace(
     n: u32,

@@ -66,8 +66,9 @@ fn choose(seen: u32, r: u32, inside: u8, outside: u8) -> u8
     if seen == r { inside } else { outside }
 }
 
-// The direction after d at the point (x, y), in the region r: right, straight or left. The pixel ahead on the right tells what to do
-// where the one ahead on the left is out of the region and where it is in it; that one is not looked at if both say right.
+// The direction after d at the point (x, y), in the region r: right where the pixel ahead on the right is not in r; else straight where
+// the one ahead on the left, `beside`, is not; else left. `left_out` and `left_in` are the answers for `beside` out of r and in r; where
+// both are right it is not looked at.
 pub(crate) fn next_digit(map: &[u32], side: u32, r: u32, x: u32, y: u32, d: u8) -> u8
     requires { ⌜ Square side (now map) × (x < 512) × (y < 512) × (d < 4) ⌝ }
     ensures { λ o. ⌜ (o ≡ turn (mapAt side (now (map .entry))) r (point x y) d) × (o < 4) ⌝ }

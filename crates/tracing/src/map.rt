@@ -1,4 +1,5 @@
-// The map of regions: 1 plus the label of each block on all pixels of its square, row by row.
+// The map of regions: 1 plus the label of each block on all pixels of its square, row by row. Where 131072 is added, the pixel's north
+// side is an edge of a cycle that is written.
 ghost use mathlib.Core.Path.{_≡_};
 ghost use Prim.Native.Nat.{_+_, _^_, _≤_, _<_};
 ghost use lib.ListN.{length};
