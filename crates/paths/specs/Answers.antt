@@ -2,13 +2,13 @@
 -- entries it wrote; the list with those entries in front. A refusal gives the number and 0, and leaves the list as it was.
 use mathlib.Core.Path.{_≡_, refl, sym, ap, _∙_}
 use mathlib.Core.Bool.{Bool, true, false, not}
-use mathlib.Core.List.{List, []}
-use Prim.Native.Nat.{ℕ, zero, suc, _≤_, _<_}
+use mathlib.Core.List.{List}
+use Prim.Native.Nat.{ℕ, suc, _≤_, _<_}
 use native.Mathlib.Omega.{arith}
 use lib.Dec.{ltb}
 use lib.ListN.{length}
 use borrow.Author.Tests.{lt-ltb, le-ltb, ltb-false, not-false}
-use Rattle.sequences.specs.Cases.{first, when, first-some, first-zero, when-zero}
+use Rattle.sequences.specs.Cases.{first, when, ifAccepted, first-some, first-zero, when-zero}
 use Rattle.sequences.specs.Over.{over, over-none}
 use Rattle.paths.specs.declared.Written.{Written}
 
@@ -38,16 +38,11 @@ module _ (cause : ℕ) (form : Bool) (need room : ℕ) where
       let z = first-zero (when (not form) cause) (when (ltb room need) 8) h in
       (not-false form (when-zero (not form) cause p (z .0)), ltb-false room need (when-zero (ltb room need) 8 (omega arith) (z .1)))
 
--- What is written: all of `new` on acceptance, nothing on a refusal.
-unfoldable pub accepted : ℕ → List ℕ → List ℕ
-accepted zero new = new
-accepted (suc number) new = []
-
 -- A writer of the list `new` whose causes give `number`: its answer, and the lent list, `old` before and `now` after.
 pub record Writes (number : ℕ) (new old now : List ℕ) (answer : Written) : Type 0 where
   pub number-is : answer .number ≡ number
-  pub count-is : answer .count ≡ length (accepted number new)
-  pub list : now ≡ over (accepted number new) old
+  pub count-is : answer .count ≡ length (ifAccepted number new)
+  pub list : now ≡ over (ifAccepted number new) old
 
 -- The piece `new` was put at the front of a list, and its length given back.
 pub record Put (new old now : List ℕ) (count : ℕ) : Type 0 where
@@ -55,19 +50,19 @@ pub record Put (new old now : List ℕ) (count : ℕ) : Type 0 where
   pub list : now ≡ over new old
 
 pub refused : (number k : ℕ) (new old : List ℕ) (answer : Written) → number ≡ suc k → answer .number ≡ suc k → answer .count ≡ 0 → Writes number new old old answer
-unfolding accepted
+unfolding ifAccepted
 refused number k new old answer e n z =
     record {
       number-is = n ∙ sym e;
-      count-is = z ∙ ap (λ m. length (accepted m new)) (sym e);
-      list = sym (over-none old) ∙ ap (λ m. over (accepted m new) old) (sym e);
+      count-is = z ∙ ap (λ m. length (ifAccepted m new)) (sym e);
+      list = sym (over-none old) ∙ ap (λ m. over (ifAccepted m new) old) (sym e);
     }
 
 pub written : (number : ℕ) (new old now : List ℕ) (answer : Written) → number ≡ 0 → answer .number ≡ 0 → Put new old now (answer .count) → Writes number new old now answer
-unfolding accepted
+unfolding ifAccepted
 written number new old now answer e n p =
     record {
       number-is = n ∙ sym e;
-      count-is = p .count-is ∙ ap (λ m. length (accepted m new)) (sym e);
-      list = p .list ∙ ap (λ m. over (accepted m new) old) (sym e);
+      count-is = p .count-is ∙ ap (λ m. length (ifAccepted m new)) (sym e);
+      list = p .list ∙ ap (λ m. over (ifAccepted m new) old) (sym e);
     }

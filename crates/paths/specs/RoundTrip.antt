@@ -6,10 +6,11 @@ use mathlib.Core.List.{List}
 use Prim.Native.Nat.{ℕ, _≤_}
 use native.Mathlib.Omega.{arith}
 use lib.ListN.{length, getD, take}
+use Rattle.sequences.specs.Cases.{ifAccepted}
 use Rattle.sequences.specs.Over.{over, take-over}
 use Rattle.lattice.specs.Walks.{outline}
 use Rattle.lattice.specs.CycleForm.{cycleForm}
-use Rattle.paths.specs.Answers.{Writes, accepted, accepts, no-cause}
+use Rattle.paths.specs.Answers.{Writes, accepts, no-cause}
 use Rattle.paths.specs.Chain.{chainOf, chainNeed, chainNumber, ChainWritten, length-bytes}
 use Rattle.paths.specs.ChainForm.{chainForm, cornersOf, readNumber, ChainRead}
 use Rattle.paths.specs.FormToChain.{chain-of-form, corners-of-chain}
@@ -38,10 +39,10 @@ pub record Left (new old now : List ℕ) (count : ℕ) : Type 0 where
   pub read-back : take count now ≡ new
 
 left-by : (number : ℕ) (new old now : List ℕ) (answer : Written) → Writes number new old now answer → number ≡ 0 → Left new old now (answer .count)
-unfolding accepted
+unfolding ifAccepted
 left-by number new old now answer w z =
-    let c : answer .count ≡ length new = w .count-is ∙ ap (λ m. length (accepted m new)) z in
-    let l : now ≡ over new old = w .list ∙ ap (λ m. over (accepted m new) old) z in
+    let c : answer .count ≡ length new = w .count-is ∙ ap (λ m. length (ifAccepted m new)) z in
+    let l : now ≡ over new old = w .list ∙ ap (λ m. over (ifAccepted m new) old) z in
     record { count-is = c; list = l; read-back = ap (λ n. take n now) c ∙ ap (take (length new)) l ∙ take-over new old }
 
 -- Where a caller stands: the corners `cs` were accepted and their chain written into a list; the bytes written are read from the

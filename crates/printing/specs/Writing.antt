@@ -6,13 +6,14 @@ use Prim.Native.Nat.{ℕ, _+_, _-_, _*_, _≤_, _<_}
 use native.Mathlib.Omega.{arith}
 use lib.ListN.{length, getD, set, length-append, length-drop}
 use borrow.Rule.Slice.PartMut.{midOf, putMid}
+use Rattle.sequences.specs.Cases.{ifAccepted}
 use Rattle.sequences.specs.Over.{over, over-none, over-push, length-over}
 use Rattle.sequences.specs.Tails.{tail-lent, over-tail}
 use Rattle.lattice.specs.CycleForm.{cycleForm}
 use Rattle.grid.specs.Listing.{Cycle}
 use Rattle.paths.specs.Stretch.{stretchOf}
 use Rattle.paths.specs.Svg.{pathData, svgNeed, svgNumber, Svg, need-suffices}
-use Rattle.paths.specs.Answers.{accepted, no-cause, Put}
+use Rattle.paths.specs.Answers.{no-cause, Put}
 use Rattle.paths.specs.declared.Written.{Written}
 use Rattle.printing.specs.Lines.{isLast, lineEnd, byCycles, Forms, room, room-more, end-length}
 use Rattle.printing.specs.Held.{cyclesFrom, cyclesIn, endsLine, cycle-next, cycles-end, ends-line}
@@ -48,12 +49,12 @@ pub record OneCycle (corners text : List ℕ) : Type 0 where
 
 module _ {corners text text′ : List ℕ} {w : Written} (h : OneCycle corners text) (s : Svg corners text text′ w) where
   pub data-put : Put (pathData corners) text text′ (w .count)
-  unfolding svgNumber svgNeed accepted
+  unfolding svgNumber svgNeed ifAccepted
   data-put =
       let z : svgNumber corners text ≡ 0 = no-cause 16 (cycleForm corners) (svgNeed corners) (length text) (h .form) (omega (arith, h .enough)) in
       record {
-        count-is = s .count-is ∙ ap (λ (m : ℕ). length (accepted m (pathData corners))) z;
-        list = s .list ∙ ap (λ (m : ℕ). over (accepted m (pathData corners)) text) z;
+        count-is = s .count-is ∙ ap (λ (m : ℕ). length (ifAccepted m (pathData corners))) z;
+        list = s .list ∙ ap (λ (m : ℕ). over (ifAccepted m (pathData corners)) text) z;
       }
 
   -- LF has room after it.
