@@ -86,9 +86,6 @@ struct nettlestair_stretch nettlestair_cycle(const uint32_t *corners, size_t cor
 /* One outline as SVG path data: 0, or 16, 8. The text has room for 9 bytes and 4 a corner. A corner is y times 512 plus x. */
 struct nettlestair_written nettlestair_svg(const uint32_t *corners, size_t corners_len, uint8_t *text, size_t text_len);
 
-/* One outline as a chain code: 0, or 16, 8. The chain has room for one byte a unit edge. */
-struct nettlestair_written nettlestair_chain(const uint32_t *corners, size_t corners_len, uint8_t *chain, size_t chain_len);
-
 /* The corners of a chain code from its start corner, y times 512 plus x: 0, or 17, 8. The list has room for them. */
 struct nettlestair_written nettlestair_read_chain(uint32_t start, const uint8_t *chain, size_t chain_len,
                                                   uint32_t *corners, size_t corners_len);

@@ -138,8 +138,6 @@ extern "C" {
 
     fn nettlestair_svg(corners: *const u32, corners_len: usize, text: *mut u8, text_len: usize) -> Written;
 
-    fn nettlestair_chain(corners: *const u32, corners_len: usize, chain: *mut u8, chain_len: usize) -> Written;
-
     fn nettlestair_read_chain(
         start: u32,
         chain: *const u8,
@@ -271,11 +269,6 @@ pub fn cycle(corners: &[u32], ends: &[u32], count: u32, k: u32) -> Stretch {
 /// One outline as SVG path data: 0, or 16, 8. The text has room for 9 bytes and 4 a corner. A corner is y times 512 plus x.
 pub fn svg(corners: &[u32], text: &mut [u8]) -> Written {
     unsafe { nettlestair_svg(corners.as_ptr(), corners.len(), text.as_mut_ptr(), text.len()) }
-}
-
-/// One outline as a chain code: 0, or 16, 8. The chain has room for one byte a unit edge.
-pub fn chain(corners: &[u32], chain: &mut [u8]) -> Written {
-    unsafe { nettlestair_chain(corners.as_ptr(), corners.len(), chain.as_mut_ptr(), chain.len()) }
 }
 
 /// The corners of a chain code from its start corner, y times 512 plus x: 0, or 17, 8. The list has room for them.

@@ -22,7 +22,7 @@ use tests::rasters;
 type Try = fn(random: &mut Random, wrong: u32) -> (u32, Option<String>);
 
 /// Each function with the numbers that it can answer; the stretch of a cycle has none.
-const FUNCTIONS: [(&str, Try, &[u32]); 10] = [
+const FUNCTIONS: [(&str, Try, &[u32]); 9] = [
     ("fuzzing, check", check, &[0, 1, 2, 3, 4, 5, 6, 7]),
     ("fuzzing, raster to blocks", blocks_from_raster, &[0, 1, 8, 9]),
     ("fuzzing, blocks to raster", raster_from_blocks, &[0, 1, 2, 3, 4, 5, 6, 7, 8]),
@@ -30,7 +30,6 @@ const FUNCTIONS: [(&str, Try, &[u32]); 10] = [
     ("fuzzing, outlines", tracing, &[0, 1, 2, 3, 4, 5, 6, 7, 8]),
     ("fuzzing, stretches", cycle, &[0]),
     ("fuzzing, path data", svg, &[0, 8, 16]),
-    ("fuzzing, chains", chain, &[0, 8, 16]),
     ("fuzzing, chains read", read_chain, &[0, 8, 17]),
     ("fuzzing, pictures", read_pgm, &[0, 10, 11, 12, 13, 14]),
 ];
@@ -230,16 +229,6 @@ fn svg(random: &mut Random, wrong: u32) -> (u32, Option<String>) {
     let length = length(random, need);
     let out = Out::of(random, length, |list| nettlestair::svg(&corners, list));
     let (number, difference) = judged(out, text.as_deref(), 16, need <= length, wrong);
-    (number, difference.map(|d| format!("{}, room for {length}: {d}", Shown(&corners))))
-}
-
-fn chain(random: &mut Random, wrong: u32) -> (u32, Option<String>) {
-    let corners = corner_list(random);
-    let digits = paths::is_cycle_form(&corners).then(|| paths::chain(&corners));
-    let need = digits.as_ref().map_or(9, Vec::len);
-    let length = length(random, need);
-    let out = Out::of(random, length, |list| nettlestair::chain(&corners, list));
-    let (number, difference) = judged(out, digits.as_deref(), 16, need <= length, wrong);
     (number, difference.map(|d| format!("{}, room for {length}: {d}", Shown(&corners))))
 }
 

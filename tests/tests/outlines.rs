@@ -1,4 +1,5 @@
-//! One outline as path data and as a chain, a chain read back, the stretch of a cycle: causes 16, 17 and 8.
+//! One outline as path data, the corners of a chain, the stretch of a cycle: causes 16, 17 and 8. The chains are those of the
+//! model's writer; the library has none.
 
 use tests::calls::{agrees, Out};
 use tests::cases::Cases;
@@ -10,7 +11,7 @@ use tests::nettlestair::{self, Stretch};
 use tests::outlines::{outline, random_outline};
 use tests::random::Random;
 
-/// Path data and chain of corners, with lists as long as needed, longer and one too short.
+/// Path data of corners, with lists as long as needed, longer and one too short.
 fn written(random: &mut Random, corners: &[u32]) {
     let what = Shown(corners);
     let before = corners.to_vec();
@@ -21,14 +22,6 @@ fn written(random: &mut Random, corners: &[u32]) {
     for length in [need, need + 3, need - 1, text.len().min(need - 1), 0] {
         let out = Out::of(random, length, |list| nettlestair::svg(corners, list));
         agrees(format_args!("path data, room for {length}, of {what}"), judged(&out, form, 16, need <= length, &text));
-    }
-    let digits = if form { chain(corners) } else { Vec::new() };
-    for length in [digits.len(), digits.len() + 3, digits.len().max(1) - 1, 0] {
-        let out = Out::of(random, length, |list| nettlestair::chain(corners, list));
-        agrees(
-            format_args!("chain, room for {length}, of {what}"),
-            judged(&out, form, 16, digits.len() <= length, &digits),
-        );
     }
     assert_eq!(before, corners, "the corners handed in");
 }
@@ -42,7 +35,7 @@ fn judged<T: Entry>(out: &Out<T>, form: bool, number: u32, room: bool, entries: 
     }
 }
 
-/// The corners of a chain, with lists as long as needed, longer and one too short.
+/// The corners of a chain, with lists as long as needed, longer and one too short; from the corners that were given, path data.
 fn read(random: &mut Random, start: u32, digits: &[u8]) {
     let expected = read_chain(start, digits);
     let corners = expected.clone().unwrap_or_default();
@@ -53,10 +46,16 @@ fn read(random: &mut Random, start: u32, digits: &[u8]) {
             judged(&out, expected.is_some(), 17, corners.len() <= length, &corners),
         );
     }
+    if expected.is_some() {
+        let mut given = vec![0; corners.len()];
+        let count = nettlestair::read_chain(start, digits, &mut given).count as usize;
+        let text = Out::of(random, 9 + 4 * count, |list| nettlestair::svg(&given[..count], list));
+        agrees(format_args!("path data of {}", Shown(digits)), text.difference(svg(&corners).as_bytes()));
+    }
 }
 
 #[test]
-fn random_outlines_there_and_back() {
+fn random_outlines() {
     let mut cases = Cases::of("random outlines");
     let mut random = Random::of("random outlines");
     for round in 0..2000 {
@@ -79,9 +78,13 @@ fn widest_and_longest() {
     let mut random = Random::of("widest and longest");
     let widest = outline(&[0, 256], &[0, 256]);
     let hole = [corner(1, 3), corner(3, 3), corner(3, 1), corner(1, 1)].to_vec();
-    let around = |corners: usize| outline(&vec![[0, 1]; corners / 4].concat(), &vec![[0, 1]; corners / 4].concat());
+    let around = |corners: usize| {
+        let last = corners / 2 - 1;
+        let line: Vec<u32> = (0..=last).map(|i| if i == last && i % 2 == 0 { 2 } else { i as u32 % 2 }).collect();
+        outline(&line, &line)
+    };
     let at_the_edge = outline(&vec![[255, 256]; 40].concat(), &vec![[256, 100]; 40].concat());
-    for corners in [widest, hole, at_the_edge, around(4), around(262_144), around(262_148)] {
+    for corners in [widest, hole, at_the_edge, around(4), around(262_144), around(262_146), around(262_148)] {
         assert_eq!(is_cycle_form(&corners), corners.len() <= 262_144);
         written(&mut random, &corners);
         read(&mut random, corners[0], &chain(&corners));
@@ -100,9 +103,9 @@ fn every_short_corner_list() {
         for k in 0..9u32.pow(length) {
             let corners: Vec<u32> = (0..length).map(|i| k / 9u32.pow(i) % 9).map(|p| corner(p % 3, p / 3)).collect();
             let form = is_cycle_form(&corners);
-            let digits = if form { chain(&corners) } else { Vec::new() };
-            let out = Out::of(&mut random, 12, |list| nettlestair::chain(&corners, list));
-            agrees(Shown(&corners), judged(&out, form, 16, true, &digits));
+            let text = if form { svg(&corners).into_bytes() } else { Vec::new() };
+            let out = Out::of(&mut random, 33, |list| nettlestair::svg(&corners, list));
+            agrees(Shown(&corners), judged(&out, form, 16, true, &text));
             forms += u32::from(form);
             cases.ran();
         }
@@ -211,7 +214,7 @@ fn every_short_chain() {
                 let corners = expected.clone().unwrap_or_default();
                 let out = Out::of(&mut random, 8, |list| nettlestair::read_chain(start, &digits, list));
                 agrees(Shown(&digits), judged(&out, expected.is_some(), 17, true, &corners));
-                // an accepted chain read and then written gives the same bytes
+                // an accepted chain lists the unit steps of its corners
                 assert!(expected.is_none() || chain(&corners) == digits, "{}", Shown(&digits));
                 cases.ran();
             }
@@ -263,8 +266,6 @@ fn damage_is_seen() {
         let (text, digits) = (svg(&corners).into_bytes(), chain(&corners));
         let mut out = Out::of(&mut random, 9 + 4 * corners.len(), |list| nettlestair::svg(&corners, list));
         each_place(&mut random, &mut cases, &mut out, |o| &mut o.list, &text, |o| o.difference(&text));
-        let mut out = Out::of(&mut random, digits.len(), |list| nettlestair::chain(&corners, list));
-        each_place(&mut random, &mut cases, &mut out, |o| &mut o.list, &digits, |o| o.difference(&digits));
         let mut out =
             Out::of(&mut random, corners.len() + 1, |list| nettlestair::read_chain(corners[0], &digits, list));
         each_place(&mut random, &mut cases, &mut out, |o| &mut o.list, &corners, |o| o.difference(&corners));

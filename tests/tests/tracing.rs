@@ -1,5 +1,5 @@
 //! The outlines of all regions against a separate tracer: dials, figures, structured and random rasters, and what becomes of
-//! the lent lists. Each listed outline is taken by its stretch, written as path data and as a chain, and read back.
+//! the lent lists. Each listed outline is taken by its stretch and written as path data; the chain of its unit steps gives it again.
 
 use tests::calls::{agrees, trace, Called, Out};
 use tests::cases::Cases;
@@ -55,16 +55,14 @@ fn traced(random: &mut Random, n: u32, raster: &[u8], more: [usize; 5]) -> Outli
     outlines
 }
 
-/// Writes an outline as path data and as a chain and reads the chain back, all with lists of exactly the need.
+/// Writes an outline as path data and reads the chain of its unit steps, with lists of exactly the need.
 fn written(random: &mut Random, corners: &[u32]) {
     assert!(is_cycle_form(corners), "an outline is a cycle form: {}", Shown(corners));
     let text = Out::of(random, 9 + 4 * corners.len(), |list| nettlestair::svg(corners, list));
     agrees(format_args!("path data of {}", Shown(corners)), text.difference(svg(corners).as_bytes()));
     let digits = chain(corners);
-    let out = Out::of(random, digits.len(), |list| nettlestair::chain(corners, list));
-    agrees(format_args!("chain of {}", Shown(corners)), out.difference(&digits));
-    let back = Out::of(random, corners.len(), |list| nettlestair::read_chain(corners[0], &digits, list));
-    agrees(format_args!("chain of {} read back", Shown(corners)), back.difference(corners));
+    let read = Out::of(random, corners.len(), |list| nettlestair::read_chain(corners[0], &digits, list));
+    agrees(format_args!("chain of {} read", Shown(corners)), read.difference(corners));
 }
 
 #[test]
@@ -85,11 +83,10 @@ fn dials() {
         outlines.cycles.iter().for_each(|cycle| written(&mut random, cycle));
         cases.ran();
     }
-    // the chain of dial 1
+    // the string of dial 1, read from (0,0)
     let outlines = traced(&mut random, 0, &[9], [0; 5]);
-    let out = Out::of(&mut random, 4, |list| nettlestair::chain(&outlines.cycles[0], list));
-    agrees("the chain of dial 1", out.difference(b"0321"));
-    assert_eq!(outlines.cycles[0][0], 0);
+    let read = Out::of(&mut random, 4, |list| nettlestair::read_chain(0, b"0321", list));
+    agrees("the string of dial 1", read.difference(&outlines.cycles[0]));
     cases.ran();
     cases.end();
 }
@@ -145,9 +142,10 @@ fn figures_of_the_papers() {
     let outlines = traced(&mut random, n, &raster, [2; 5]);
     let region = outlines.owners.iter().position(|&owner| owner == 1).expect("the figure is region 1 of its array");
     let cycle = &outlines.cycles[region];
-    assert_eq!(cycle[0], corner(5, 5), "{figure}");
-    let out = Out::of(&mut random, figures::TABLE_I_CHAIN.len(), |list| nettlestair::chain(cycle, list));
-    agrees(figure, out.difference(figures::TABLE_I_CHAIN));
+    let (x, y) = figures::TABLE_I_START;
+    let start = corner(x, y);
+    let read = Out::of(&mut random, cycle.len(), |list| nettlestair::read_chain(start, figures::TABLE_I_CHAIN, list));
+    agrees(figure, read.difference(cycle));
     cases.ran();
     cases.end();
 }

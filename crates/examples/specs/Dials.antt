@@ -3,7 +3,6 @@ use mathlib.Core.Path.{_≡_, refl, ap₂}
 use mathlib.Core.Bool.{Bool, true, false, _&&_, false≢true}
 use mathlib.Core.List.{List, [], _∷_}
 use Prim.Native.Nat.{ℕ}
-use lib.ListN.{getD}
 use lib.Dec.{eqb}
 use borrow.Author.Tests.{eqb-true}
 use Rattle.quadtree.specs.Blocks.{blocks, paint}
@@ -12,7 +11,7 @@ use Rattle.components.specs.Numbers.{regions, labels}
 use Rattle.sequences.specs.Cases.{and-both}
 use Rattle.grid.specs.Listing.{Cycle, owners, ends, allCorners, pointsAt, cycleCount, cornerCount}
 use Rattle.tracing.specs.Tracing.{outlinesOf}
-use Rattle.paths.specs.Chain.{chainOf}
+use Rattle.paths.specs.ChainForm.{chainForm, cornersOf}
 use Rattle.printing.specs.Lines.{dataOf}
 
 -- What is said of a block list:
@@ -21,14 +20,14 @@ use Rattle.printing.specs.Lines.{dataOf}
 -- the counts of regions, of cycles and of corners;
 -- the owners, the ends and the corners of the outlines;
 -- of a region, the path data of its cycles joined;
--- of a cycle, its first corner and its chain.
+-- of a string, that it is a chain from its start corner, and the cycle whose corners it gives.
 pub data Saying : Type 0 where
   answer : ℕ → Saying
   labelled : List ℕ → Saying
   counted : ℕ → ℕ → ℕ → Saying
   outlined : List ℕ → List ℕ → List ℕ → Saying
   path : ℕ → List ℕ → Saying
-  chain : ℕ → ℕ → List ℕ → Saying
+  string : ℕ → List ℕ → ℕ → Saying
 
 pub record Dial : Type 0 where
   pub n : ℕ
@@ -52,7 +51,7 @@ Holds d (labelled ls) = labels (d .n) (blocks (d .codes) (d .levels) (d .colours
 Holds d (counted r c k) = (regions (d .n) (pixelsOf d) ≡ r) × (cycleCount (traced d) ≡ c) × (cornerCount (traced d) ≡ k)
 Holds d (outlined os es cs) = (owners (traced d) ≡ os) × (ends (traced d) ≡ es) × (allCorners (traced d) ≡ cs)
 Holds d (path r bytes) = dataOf r (traced d) ≡ bytes
-Holds d (chain k p bytes) = (getD (pointsAt (traced d) k) 0 0 ≡ p) × (chainOf (pointsAt (traced d) k) ≡ bytes)
+Holds d (string start bytes k) = (chainForm start bytes ≡ true) × (cornersOf start bytes ≡ pointsAt (traced d) k)
 
 -- All that is said of a dial, and of each dial of a table.
 abbrev pub Each : Dial → List Saying → Type 0
@@ -72,13 +71,13 @@ same (x ∷ xs) [] = false
 same (x ∷ xs) (y ∷ ys) = eqb x y && same xs ys
 
 unfoldable pub holds : Dial → Saying → Bool
-unfolding number labels blocks regions pixelsOf outlinesOf cycleCount cornerCount owners ends allCorners pointsAt dataOf chainOf same
+unfolding number labels blocks regions pixelsOf outlinesOf cycleCount cornerCount owners ends allCorners pointsAt dataOf chainForm cornersOf same
 holds d (answer k) = eqb (number (d .n) (d .codes) (d .levels) (d .colours)) k
 holds d (labelled ls) = same (labels (d .n) (blocks (d .codes) (d .levels) (d .colours))) ls
 holds d (counted r c k) = eqb (regions (d .n) (pixelsOf d)) r && (eqb (cycleCount (traced d)) c && eqb (cornerCount (traced d)) k)
 holds d (outlined os es cs) = same (owners (traced d)) os && (same (ends (traced d)) es && same (allCorners (traced d)) cs)
 holds d (path r bytes) = same (dataOf r (traced d)) bytes
-holds d (chain k p bytes) = eqb (getD (pointsAt (traced d) k) 0 0) p && same (chainOf (pointsAt (traced d) k)) bytes
+holds d (string start bytes k) = chainForm start bytes && same (cornersOf start bytes) (pointsAt (traced d) k)
 
 unfoldable pub each : Dial → List Saying → Bool
 unfolding holds
@@ -113,9 +112,9 @@ holds-says d (outlined os es cs) h =
     let b = and-both (same (ends (traced d)) es) (same (allCorners (traced d)) cs) (a .1) in
     (same-says (owners (traced d)) os (a .0), same-says (ends (traced d)) es (b .0), same-says (allCorners (traced d)) cs (b .1))
 holds-says d (path r bytes) h = same-says (dataOf r (traced d)) bytes h
-holds-says d (chain k p bytes) h =
-    let a = and-both (eqb (getD (pointsAt (traced d) k) 0 0) p) (same (chainOf (pointsAt (traced d) k)) bytes) h in
-    (eqb-true (getD (pointsAt (traced d) k) 0 0) p (a .0), same-says (chainOf (pointsAt (traced d) k)) bytes (a .1))
+holds-says d (string start bytes k) h =
+    let a = and-both (chainForm start bytes) (same (cornersOf start bytes) (pointsAt (traced d) k)) h in
+    (a .0, same-says (cornersOf start bytes) (pointsAt (traced d) k) (a .1))
 
 pub each-says : (d : Dial) (ss : List Saying) → each d ss ≡ true → Each d ss
 unfolding each

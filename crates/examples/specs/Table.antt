@@ -6,10 +6,8 @@ use Rattle.quadtree.specs.Blocks.{blocks}
 use Rattle.components.specs.Numbers.{labels}
 use Rattle.lattice.specs.Parity.{isEven}
 use Rattle.lattice.specs.Directions.{point, xOf, yOf}
-use Rattle.lattice.specs.Walks.{outline}
 use Rattle.paths.specs.Decimal.{decimal}
-use Rattle.paths.specs.Chain.{chainOf, bytesOf, byteOf}
-use Rattle.examples.specs.Dials.{answer, labelled, counted, outlined, path, chain, Dial, AllHold, allHold, all-say}
+use Rattle.examples.specs.Dials.{answer, labelled, counted, outlined, path, string, Dial, AllHold, allHold, all-say}
 
 -- Path data as bytes, for numbers of one digit, with m for M, h for H, v for V and z for Z: `m 0 1 (h 2 (z []))` is the text M0 1H2Z.
 unfoldable pub m : ℕ → ℕ → List ℕ → List ℕ
@@ -24,7 +22,7 @@ v y rest = 86 ∷ (48 + y) ∷ rest
 unfoldable pub z : List ℕ → List ℕ
 z rest = 90 ∷ rest
 
--- A chain as bytes, from its digits.
+-- A string of digits as bytes.
 unfoldable pub digits : List ℕ → List ℕ
 digits ds = map (λ d. 48 + d) ds
 
@@ -35,7 +33,7 @@ checked n codes levels colours k = record { n = n; codes = codes; levels = level
 unfoldable pub table : List Dial
 unfolding point m h v z digits checked
 table =
-    -- 1. n=0, one block: M0 0H1V1H0Z, chain 0321 from (0,0).
+    -- 1. n=0, one block: M0 0H1V1H0Z; the string 0321 read from (0,0) gives its corners (document 02, m).
     record {
       n = 0;
       codes = 0 ∷ [];
@@ -47,7 +45,7 @@ table =
           ∷ counted 1 1 4
           ∷ outlined (0 ∷ []) (4 ∷ []) (point 0 0 ∷ point 1 0 ∷ point 1 1 ∷ point 0 1 ∷ [])
           ∷ path 0 (m 0 0 (h 1 (v 1 (h 0 (z [])))))
-          ∷ chain 0 (point 0 0) (digits (0 ∷ 3 ∷ 2 ∷ 1 ∷ []))
+          ∷ string (point 0 0) (digits (0 ∷ 3 ∷ 2 ∷ 1 ∷ [])) 0
           ∷ [];
     }
     -- 2. Figure 5(b): numbers 0 0 0 1 0 0 2; M0 0H4V2H2V1H1V2H2V4H0Z, M1 1H2V2H1Z and M2 2H4V4H2Z.
@@ -142,7 +140,7 @@ table =
 -- "Dials 1 to 12, without the printing, are proved about the definitions as one table under one theorem" (document 01,
 -- "Agreement"): each row's sayings hold, as equations.
 pub dials : AllHold table
-unfolding table allHold chainOf bytesOf byteOf outline decimal isEven xOf yOf
+unfolding table allHold decimal isEven xOf yOf
 dials = all-say table refl
 
 -- A saying read off the table: the region numbers of dial 2, block for block.

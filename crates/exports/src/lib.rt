@@ -7,7 +7,6 @@ ghost use Rattle.regions.specs.Promise.{Numbering};
 ghost use Rattle.tracing.specs.Tracing.{lent, Tracing};
 ghost use Rattle.paths.specs.Stretch.{Place};
 ghost use Rattle.paths.specs.Svg.{Svg};
-ghost use Rattle.paths.specs.Chain.{ChainWritten};
 ghost use Rattle.paths.specs.ChainForm.{ChainRead};
 ghost use Rattle.pgm.specs.Picture.{Answered};
 
@@ -159,17 +158,6 @@ pub extern "C" fn nettlestair_svg(corners: &[u32], text: &mut [u8]) -> Written
     ensures { λ r. ⌜ Svg (now (corners .entry)) (now (text .entry)) (now (text .exit)) (record { number = r .number; count = r .count }) ⌝ }
 {
     let r = paths::svg(corners, text);
-    Written {
-        number: r.number,
-        count: r.count,
-    }
-}
-
-#[no_mangle]
-pub extern "C" fn nettlestair_chain(corners: &[u32], chain: &mut [u8]) -> Written
-    ensures { λ r. ⌜ ChainWritten (now (corners .entry)) (now (chain .entry)) (now (chain .exit)) (record { number = r .number; count = r .count }) ⌝ }
-{
-    let r = paths::chain(corners, chain);
     Written {
         number: r.number,
         count: r.count,

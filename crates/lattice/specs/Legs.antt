@@ -136,9 +136,3 @@ module _ (P : ℕ → ℕ → Type 0) (p q : ℕ)
 
 pub heading-below : (p q : ℕ) → heading p q < 4
 heading-below p q = one-of-four (λ d k. d < 4) p q (λ s l. omega arith) (λ s l. omega arith) (λ s l. omega arith) (λ s l. omega arith)
-
-pub distance-most : (p q : ℕ) → inside p ≡ true → inside q ≡ true → distance p q ≤ 256
-distance-most p q hp hq =
-    let a = inside-says p hp in
-    let b = inside-says q hq in
-    one-of-four (λ d k. k ≤ 256) p q (λ s l. omega arith) (λ s l. omega arith) (λ s l. omega arith) (λ s l. omega arith)

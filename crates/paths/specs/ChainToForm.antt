@@ -1,4 +1,4 @@
--- The corners of a chain are a cycle form, and its chain is the chain read.
+-- The corners of a chain are a cycle form, and the chain lists its unit steps.
 use mathlib.Core.Path.{_≡_, refl, sym, ap, ap₂, _∙_, subst}
 use mathlib.Core.Logic.{inl, inr}
 use mathlib.Core.Bool.{true}
@@ -14,7 +14,7 @@ use Rattle.lattice.specs.Corners.{Walk, outline-of-corners}
 use Rattle.lattice.specs.CycleForm.{inside, cycleForm, inside-says}
 use Rattle.lattice.specs.Outlines.{tail-edge, digit-edge}
 use Rattle.lattice.specs.Forms.{Proper, corners-form}
-use Rattle.paths.specs.Chain.{byteOf, bytesOf, chainOf}
+use Rattle.paths.specs.ChainCode.{byteOf, bytesOf, chainOf}
 use Rattle.paths.specs.ChainForm.{digitOf, walk, free, allowed, leads, lastByte, isAcross, lastAcross, closes, cornersOf, chainForm, chain-parts}
 use Rattle.paths.specs.Reading.{Allowed, allowed-says, digit-below, free-says, move-inside}
 use Rattle.paths.specs.Counting.{last-edge, across-below, across-says, first-says, some-bytes}
@@ -124,7 +124,7 @@ form-of-chain start (b ∷ bs) h =
     let e = w .walk-is in
     rw e (corners-form (w .first) (w .rest) (w .closes-up) (w .proper) (w .east) (w .odd) (rw e at (chain-parts start (b ∷ bs) h .most)))
 
--- The chain of the corners of a chain is the chain.
+-- A chain lists the unit steps of its corners.
 pub bytes-of-corners : (start : ℕ) (bs : List ℕ) → chainForm start bs ≡ true → chainOf (cornersOf start bs) ≡ bs
 unfolding chainOf cornersOf closes
 bytes-of-corners start [] h = absurd (omega (arith, some-bytes [] (chain-parts start [] h .first)))

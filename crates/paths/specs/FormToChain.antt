@@ -1,4 +1,4 @@
--- A cycle form written as a chain has the form of a chain, and its corners are the corners of the form.
+-- The string that lists a cycle form's unit steps from its first corner has the form of a chain, and its corners are those of the form.
 use mathlib.Core.Path.{_≡_, refl, sym, ap, ap₂, _∙_}
 use mathlib.Core.Logic.{_≢_}
 use mathlib.Core.Bool.{Bool, true, false, not}
@@ -17,7 +17,7 @@ use Rattle.lattice.specs.CycleForm.{inside, allInside, byTurns, along, eastward
 use Rattle.lattice.specs.Legs.{heading, distance, Leg, straight-is, heading-below, heading-east}
 use Rattle.lattice.specs.Outlines.{digit-edge, Axis, next-axis, first-step, last-step, last-of-walk, walk-some, round, corners-of-outline}
 use Rattle.lattice.specs.Closing.{outline-closes}
-use Rattle.paths.specs.Chain.{byteOf, bytesOf, chainOf}
+use Rattle.paths.specs.ChainCode.{byteOf, bytesOf, chainOf}
 use Rattle.paths.specs.ChainForm.{digitOf, walk, free, allowed, leads, lastByte, firstEast, isAcross, lastAcross, closes, cornersOf, chainForm, from-chain-parts}
 use Rattle.paths.specs.Reading.{says-allowed}
 
@@ -178,7 +178,7 @@ module _ (c : ℕ) (cs : List ℕ) (h : cycleForm (c ∷ cs) ≡ true) where
         most = rw corners-back (parts (c ∷ cs) h .most);
       })
 
--- A cycle form written as a chain is a chain from the form's first corner, and gives the form's corners.
+-- The string of a cycle form is a chain from the form's first corner, and gives the form's corners.
 pub chain-of-form : (cs : List ℕ) → cycleForm cs ≡ true → chainForm (getD cs 0 0) (chainOf cs) ≡ true
 chain-of-form [] h = absurd (omega (arith, parts [] h .least))
 chain-of-form (c ∷ cs) h = form-to-chain c cs h

@@ -6,12 +6,12 @@ pub mod Stores
 pub mod Underway
 pub mod Svg
 pub mod Stretch
-pub mod Chain
+pub mod ChainCode
 pub mod ChainForm
 pub mod Reading
 pub mod Counting
 pub mod ChainTest
 pub mod FormToChain
 pub mod ChainToForm
-pub mod RoundTrip
+pub mod Callers
 pub mod Dial

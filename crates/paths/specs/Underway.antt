@@ -19,9 +19,6 @@ pub record Underway (whole left old now : List ℕ) (at : ℕ) : Type 0 where
 pub begin : (whole old : List ℕ) → Underway whole whole old old 0
 begin whole old = record { done = []; at-is = refl; list = sym (over-none old); long = refl; total = refl }
 
-pub begin-with : (whole left old : List ℕ) → left ≡ whole → Underway whole left old old 0
-begin-with whole left old e = record { done = []; at-is = refl; list = sym (over-none old); long = refl; total = e }
-
 -- All is written.
 pub ended : {whole left old now : List ℕ} {at : ℕ} → Underway whole left old now at → left ≡ [] → Put whole old now at
 ended {whole} {left} {old} {now} {at} u e =

@@ -1,14 +1,12 @@
-// One outline as SVG path data and as a chain code, a chain code read back, and the stretch of one cycle's corners
-// (document 01, "Path, chain and picture").
+// One outline as SVG path data, the corners of a chain code, and the stretch of one cycle's corners (document 01, "Path, chain
+// and picture").
 ghost use mathlib.Core.Path.{_≡_};
 ghost use Prim.Native.Nat.{_<_};
 ghost use lib.ListN.{length};
-ghost use Rattle.paths.specs.Chain.{ChainWritten};
 ghost use Rattle.paths.specs.ChainForm.{ChainRead};
 ghost use Rattle.paths.specs.Stretch.{Place, Part, beginOf};
 ghost use Rattle.paths.specs.Svg.{Svg};
 
-mod edges;
 mod form;
 mod reading;
 mod text;
@@ -37,29 +35,6 @@ pub fn svg(corners: &[u32], text: &mut [u8]) -> Written
         };
     }
     let n = text::write_path(corners, text);
-    Written {
-        number: 0,
-        count: n as u32,
-    }
-}
-
-// The chain code of one cycle form: 16, then 8 with the need of its unit edges.
-pub fn chain(corners: &[u32], bytes: &mut [u8]) -> Written
-    ensures { λ r. ⌜ ChainWritten (now (corners .entry)) (now (bytes .entry)) (now (bytes .exit)) r ⌝ }
-{
-    if !form::cycle_form(corners) {
-        return Written {
-            number: 16,
-            count: 0,
-        };
-    }
-    if bytes.len() < edges::count(corners) {
-        return Written {
-            number: 8,
-            count: 0,
-        };
-    }
-    let n = edges::write(corners, bytes);
     Written {
         number: 0,
         count: n as u32,

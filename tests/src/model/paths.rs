@@ -1,5 +1,5 @@
-//! One outline as corners, as path data and as a chain, and the stretch of a cycle: points and steps, each condition of
-//! causes 16 and 17 asked by itself.
+//! One outline as corners and as path data, a chain written and read, and the stretch of a cycle: points and steps, each
+//! condition of causes 16 and 17 asked by itself. The library reads chains only; the writer here is for its tests.
 
 /// x and y.
 pub type Point = (u32, u32);
