@@ -1,5 +1,5 @@
--- Where a caller of the reader stands, and of the reader and then of the writer of path data: what their promises say of a string
--- on a tracker card (document 02, m).
+-- What the promises say where a caller of the reader stands, and of the reader and then of the writer of path data: what a string on
+-- a tracker card gives (document 02, m).
 use mathlib.Core.Path.{_≡_, sym, ap, ap₂, _∙_}
 use mathlib.Core.Bool.{true}
 use mathlib.Core.List.{List}
@@ -25,8 +25,8 @@ pub record Wrote (new old now : List ℕ) (answer : Written) : Type 0 where
   pub list : now ≡ over new old
   pub up-to-count : take (answer .count) now ≡ new
 
-wrote : (number : ℕ) (new old now : List ℕ) (answer : Written) → Writes number new old now answer → number ≡ 0 → Wrote new old now answer
-wrote number new old now answer w z =
+accepted-writes : (number : ℕ) (new old now : List ℕ) (answer : Written) → Writes number new old now answer → number ≡ 0 → Wrote new old now answer
+accepted-writes number new old now answer w z =
     let e : ifAccepted number new ≡ new = written-accepted number new z in
     let c : answer .count ≡ length new = w .count-is ∙ ap length e in
     let l : now ≡ over new old = w .list ∙ ap (λ t. over t old) e in
@@ -50,7 +50,7 @@ module _ (start : ℕ) (bytes : List ℕ) {list list′ : List ℕ} {r : Written
   is-chain = accepts 17 (chainForm start bytes) (length (cornersOf start bytes)) (length list) (omega arith) is-zero .0
 
   gave : Wrote (cornersOf start bytes) list list′ r
-  gave = wrote (readNumber start bytes list) (cornersOf start bytes) list list′ r reads is-zero
+  gave = accepted-writes (readNumber start bytes list) (cornersOf start bytes) list list′ r reads is-zero
 
   -- "every accepted string gives the one cycle form that begins at its start corner and whose unit steps it lists".
   pub gives-the-one-cycle-form : TheOneCycleForm start bytes (take (r .count) list′) (r .count)
@@ -72,7 +72,7 @@ module _ (start : ℕ) (bytes : List ℕ) {list list′ : List ℕ} {r : Written
       let cs = take (r .count) list′ in
       let f = gives-the-one-cycle-form in
       let z = no-cause 16 (cycleForm cs) (9 + 4 * length cs) (length text) (f .form) (rw (f .counted) room) in
-      wrote (svgNumber cs text) (pathData cs) text text′ w writes z
+      accepted-writes (svgNumber cs text) (pathData cs) text text′ w writes z
 
 -- "each must still give its corners": a string that lists the unit steps of a cycle form, as the chain writer wrote it, is accepted from
 -- the form's first corner where there is room, and gives the form.
@@ -83,4 +83,4 @@ each-still-gives-its-corners cs {list} {list′} {r} f reads room =
     let start = getD cs 0 0 in
     let same : cornersOf start (chainOf cs) ≡ cs = corners-of-chain cs f in
     let z = no-cause 17 (chainForm start (chainOf cs)) (length (cornersOf start (chainOf cs))) (length list) (chain-of-form cs f) (rw same room) in
-    rw same at (wrote (readNumber start (chainOf cs) list) (cornersOf start (chainOf cs)) list list′ r reads z)
+    rw same at (accepted-writes (readNumber start (chainOf cs) list) (cornersOf start (chainOf cs)) list list′ r reads z)
