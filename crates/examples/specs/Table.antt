@@ -5,8 +5,10 @@ use Prim.Native.Nat.{ℕ, _+_}
 use Rattle.quadtree.specs.Blocks.{blocks}
 use Rattle.components.specs.Numbers.{labels}
 use Rattle.lattice.specs.Parity.{isEven}
-use Rattle.lattice.specs.Directions.{point, xOf, yOf}
+use Rattle.lattice.specs.Directions.{point, xOf, yOf, opposite}
+use Rattle.lattice.specs.CycleForm.{inside}
 use Rattle.paths.specs.Decimal.{decimal}
+use Rattle.paths.specs.ChainForm.{digitOf, walk, isDigit, free, allowed, leads, lastByte, firstEast, isAcross, lastAcross, closes}
 use Rattle.examples.specs.Dials.{answer, labelled, counted, outlined, path, string, Dial, AllHold, allHold, all-say}
 
 -- Path data as bytes, for numbers of one digit, with m for M, h for H, v for V and z for Z: `m 0 1 (h 2 (z []))` is the text M0 1H2Z.
@@ -140,7 +142,7 @@ table =
 -- "Dials 1 to 12, without the printing, are proved about the definitions as one table under one theorem" (document 01,
 -- "Agreement"): each row's sayings hold, as equations.
 pub dials : AllHold table
-unfolding table allHold decimal isEven xOf yOf
+unfolding table allHold decimal isEven xOf yOf opposite inside digitOf walk isDigit free allowed leads lastByte firstEast isAcross lastAcross closes
 dials = all-say table refl
 
 -- A saying read off the table: the region numbers of dial 2, block for block.
