@@ -10,7 +10,8 @@ use borrow.Author.Tests.{lt-ltb, le-ltb, eq-eqb, ne-eqb}
 use Rattle.sequences.specs.Cases.{first, when, first-none, first-some, when-yes, when-no}
 use Rattle.quadtree.specs.Blocks.{blocks}
 use Rattle.quadtree.specs.Number.{number, cover, siblings}
-use Rattle.blocks.specs.Lists.{EqualLengths}
+use Rattle.quadtree.specs.Lists.{EqualLengths}
+use Rattle.blocks.specs.Covering.{CoverOf}
 
 module _ (n : ℕ) (cs ls ks : List ℕ) where
   unlike : Bool
@@ -52,8 +53,7 @@ module _ (n : ℕ) (cs ls ks : List ℕ) where
       (when-no unlike 2 (ap₂ (λ (s t : Bool). not (s && t)) (eq-eqb (length cs) (length ls) (long .levels-too)) (eq-eqb (length ls) (length ks) (long .colours-too))))
 
   -- The pass over the blocks found the fault, of whatever colours.
-  module _ {fault : ℕ} (small : n ≤ 8) (levels-too : length cs ≡ length ls) (colours-too : length ls ≡ length ks)
-      (covering : (vs : List ℕ) → length vs ≡ length ls → fault ≡ cover n 0 (blocks cs ls vs)) where
+  module _ {fault : ℕ} (small : n ≤ 8) (levels-too : length cs ≡ length ls) (colours-too : length ls ≡ length ks) (covering : CoverOf n cs ls fault) where
     long : EqualLengths cs ls ks
     long = record { levels-too = levels-too; colours-too = colours-too }
 

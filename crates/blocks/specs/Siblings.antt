@@ -6,22 +6,23 @@ use Prim.Native.Nat.{ℕ, suc, _+_, _*_, _/_, _%_, _^_, _≤_, _<_}
 use native.Mathlib.Nat.{div-add-mod'}
 use native.Mathlib.Omega.{arith}
 use lib.Arith.{digits-mod}
-use lib.Count.{trailingZeros}
 use lib.ListN.{length, getD, drop, length-drop}
 use lib.Dec.{eqb, ltb}
 use borrow.Author.Tests.{lt-ltb, le-ltb, eq-eqb, ne-eqb, eqb-true}
 use Rattle.sequences.specs.Cases.{and-stop, and-fail, and-both, both-and, same-test}
 use Rattle.sequences.specs.Powers.{pow4-pos}
+use Rattle.location.specs.Levels.{alignment}
+use Rattle.location.specs.TopLevels.{aligned-divides, divides-aligned}
 use Rattle.quadtree.specs.Blocks.{Block, blocks}
-use Rattle.quadtree.specs.Number.{cover, mergeable, siblings}
-use Rattle.quadtree.specs.Siblings.{mergeable-facts}
+use Rattle.quadtree.specs.Number.{cover, fourAlike, fourSiblings, mergeable, siblings}
+use Rattle.quadtree.specs.Siblings.{FourSiblings, siblings-facts, mergeable-facts, siblings-here, siblings-next}
 use Rattle.quadtree.specs.Covering.{NextBlock, cover-zero}
-use Rattle.blocks.specs.Alignment.{multiple-of-level, no-multiple-of-level}
-use Rattle.blocks.specs.Lists.{EqualLengths, blockOf, length-blocks, rest-after}
+use Rattle.quadtree.specs.Lists.{EqualLengths, blockOf, length-blocks, rest-after}
 
 -- Whether the four entries from the place i on are equal.
-unfoldable pub fourAlike : List ℕ → ℕ → Bool
-fourAlike list i = eqb (getD list (i + 1) 0) (getD list i 0) && (eqb (getD list (i + 2) 0) (getD list i 0) && eqb (getD list (i + 3) 0) (getD list i 0))
+unfoldable pub alikeFrom : List ℕ → ℕ → Bool
+unfolding fourAlike
+alikeFrom list i = fourAlike (getD list i 0) (getD list (i + 1) 0) (getD list (i + 2) 0) (getD list (i + 3) 0)
 
 -- The four entries from the place i on as digits to the base 256.
 pub record Digits (list : List ℕ) (i : ℕ) : Type 0 where
@@ -32,8 +33,8 @@ pub record Digits (list : List ℕ) (i : ℕ) : Type 0 where
 
 -- They are equal exactly where their number is the first times 1 + 256 + 256^2 + 256^3.
 pub four-digits-alike : {list : List ℕ} {i : ℕ} → Digits list i
-    → eqb (getD list i 0 + 256 * getD list (i + 1) 0 + 65536 * getD list (i + 2) 0 + 16777216 * getD list (i + 3) 0) (16843009 * getD list i 0) ≡ fourAlike list i
-unfolding fourAlike
+    → eqb (getD list i 0 + 256 * getD list (i + 1) 0 + 65536 * getD list (i + 2) 0 + 16777216 * getD list (i + 3) 0) (16843009 * getD list i 0) ≡ alikeFrom list i
+unfolding alikeFrom fourAlike
 four-digits-alike {list} {i} digits = same-test (eqb number (16843009 * a)) (eqb b a && (eqb c a && eqb d a)) to from
   where
     a : ℕ
@@ -70,110 +71,67 @@ four-digits-alike {list} {i} digits = same-test (eqb number (16843009 * a)) (eqb
         let two = and-both (eqb c a) (eqb d a) (one .1) in
         eq-eqb number (16843009 * a) (omega (arith, eqb-true b a (one .0), eqb-true c a (two .0), eqb-true d a (two .1)))
 
--- Whether the four blocks from the place i on are siblings: cause 7 but for the colours.
-unfoldable pub fourSiblings : ℕ → List ℕ → List ℕ → ℕ → Bool
-unfolding fourAlike
-fourSiblings n cs ls i = ltb (getD ls i 0) n && (eqb (getD cs i 0 % 4 ^ suc (getD ls i 0)) 0 && fourAlike ls i)
+-- Whether the four blocks from the place i on are siblings.
+unfoldable pub siblingsFrom : ℕ → List ℕ → List ℕ → List ℕ → ℕ → Bool
+unfolding fourSiblings blockOf
+siblingsFrom n cs ls ks i = fourSiblings n (blockOf cs ls ks i) (blockOf cs ls ks (i + 1)) (blockOf cs ls ks (i + 2)) (blockOf cs ls ks (i + 3))
 
 -- How far the pass goes on from the place i: over four siblings, else over one block; 0 where the four have one colour.
 unfoldable pub strideAt : ℕ → List ℕ → List ℕ → List ℕ → ℕ → ℕ
-unfolding fourAlike fourSiblings
-strideAt n cs ls ks i = elim (fourSiblings n cs ls i) [ true ↦ elim (fourAlike ks i) [ true ↦ 0 | false ↦ 4 ] | false ↦ 1 ]
+unfolding alikeFrom siblingsFrom
+strideAt n cs ls ks i = elim (siblingsFrom n cs ls ks i) [ true ↦ elim (alikeFrom ks i) [ true ↦ 0 | false ↦ 4 ] | false ↦ 1 ]
 
 module _ (n : ℕ) (cs ls ks : List ℕ) (i : ℕ) where
-  stride-one : fourSiblings n cs ls i ≡ false → strideAt n cs ls ks i ≡ 1
+  stride-one : siblingsFrom n cs ls ks i ≡ false → strideAt n cs ls ks i ≡ 1
   unfolding strideAt
   stride-one h = rw (h, strideAt)
 
-  stride-none : fourSiblings n cs ls i ≡ true → fourAlike ks i ≡ true → strideAt n cs ls ks i ≡ 0
+  stride-none : siblingsFrom n cs ls ks i ≡ true → alikeFrom ks i ≡ true → strideAt n cs ls ks i ≡ 0
   unfolding strideAt
   stride-none h k = rw (h, strideAt, k)
 
-  stride-four : fourSiblings n cs ls i ≡ true → fourAlike ks i ≡ false → strideAt n cs ls ks i ≡ 4
+  stride-four : siblingsFrom n cs ls ks i ≡ true → alikeFrom ks i ≡ false → strideAt n cs ls ks i ≡ 4
   unfolding strideAt
   stride-four h k = rw (h, strideAt, k)
 
   -- The answers of the code's tests, in their order.
-  large : Bool
-  large = ltb (getD ls i 0) n
+  below-n : Bool
+  below-n = ltb (getD ls i 0) n
 
   first-child : Bool
   first-child = eqb (getD cs i 0 % 4 ^ suc (getD ls i 0)) 0
 
-  parts : fourSiblings n cs ls i ≡ large && (first-child && fourAlike ls i)
-  unfolding fourSiblings large first-child
+  parts : siblingsFrom n cs ls ks i ≡ below-n && (first-child && alikeFrom ls i)
+  unfolding siblingsFrom fourSiblings blockOf alikeFrom below-n first-child
   parts = refl
 
   pub not-below-n : n ≤ getD ls i 0 → 1 ≡ strideAt n cs ls ks i
-  unfolding large
-  not-below-n h = sym (stride-one (parts ∙ and-stop large (first-child && fourAlike ls i) (le-ltb (getD ls i 0) n h)))
+  unfolding below-n
+  not-below-n h = sym (stride-one (parts ∙ and-stop below-n (first-child && alikeFrom ls i) (le-ltb (getD ls i 0) n h)))
 
-  pub not-first-child : getD ls i 0 < 16 → trailingZeros 32 (getD cs i 0) / 2 ≤ getD ls i 0 → 1 ≡ strideAt n cs ls ks i
+  pub not-first-child : getD ls i 0 < 16 → alignment (getD cs i 0) ≤ getD ls i 0 → 1 ≡ strideAt n cs ls ks i
   unfolding first-child
   not-first-child low h =
-      let no-multiple = no-multiple-of-level (getD cs i 0) (suc (getD ls i 0)) low (omega arith) in
-      sym (stride-one (parts ∙ and-fail large (first-child && fourAlike ls i) (and-stop first-child (fourAlike ls i) (ne-eqb (getD cs i 0 % 4 ^ suc (getD ls i 0)) 0 no-multiple))))
+      let no-multiple : getD cs i 0 % 4 ^ suc (getD ls i 0) ≡ 0 → ⊥ = λ e. omega (arith, divides-aligned (suc (getD ls i 0)) (getD cs i 0) low e) in
+      let other : first-child ≡ false = ne-eqb (getD cs i 0 % 4 ^ suc (getD ls i 0)) 0 no-multiple in
+      sym (stride-one (parts ∙ and-fail below-n (first-child && alikeFrom ls i) (and-stop first-child (alikeFrom ls i) other)))
 
-  pub not-one-level : fourAlike ls i ≡ false → 1 ≡ strideAt n cs ls ks i
-  not-one-level h = sym (stride-one (parts ∙ and-fail large (first-child && fourAlike ls i) (and-fail first-child (fourAlike ls i) h)))
+  pub not-one-level : alikeFrom ls i ≡ false → 1 ≡ strideAt n cs ls ks i
+  not-one-level h = sym (stride-one (parts ∙ and-fail below-n (first-child && alikeFrom ls i) (and-fail first-child (alikeFrom ls i) h)))
 
-  module _ (low : getD ls i 0 < n) (h : getD ls i 0 < trailingZeros 32 (getD cs i 0) / 2) (alike : fourAlike ls i ≡ true) where
-    all-parts : fourSiblings n cs ls i ≡ true
-    unfolding large first-child
+  module _ (low : getD ls i 0 < n) (h : getD ls i 0 < alignment (getD cs i 0)) (one-level : alikeFrom ls i ≡ true) where
+    all-parts : siblingsFrom n cs ls ks i ≡ true
+    unfolding below-n first-child
     all-parts =
-        parts ∙ both-and large (first-child && fourAlike ls i) (lt-ltb (getD ls i 0) n low)
-        (both-and first-child (fourAlike ls i) (eq-eqb (getD cs i 0 % 4 ^ suc (getD ls i 0)) 0 (multiple-of-level (getD cs i 0) (suc (getD ls i 0)) h)) alike)
+        let multiple : getD cs i 0 % 4 ^ suc (getD ls i 0) ≡ 0 = aligned-divides (suc (getD ls i 0)) (getD cs i 0) h in
+        parts ∙ both-and below-n (first-child && alikeFrom ls i) (lt-ltb (getD ls i 0) n low)
+        (both-and first-child (alikeFrom ls i) (eq-eqb (getD cs i 0 % 4 ^ suc (getD ls i 0)) 0 multiple) one-level)
 
-    pub one-colour : fourAlike ks i ≡ true → 0 ≡ strideAt n cs ls ks i
+    pub one-colour : alikeFrom ks i ≡ true → 0 ≡ strideAt n cs ls ks i
     one-colour k = sym (stride-none all-parts k)
 
-    pub more-colours : fourAlike ks i ≡ false → 4 ≡ strideAt n cs ls ks i
+    pub more-colours : alikeFrom ks i ≡ false → 4 ≡ strideAt n cs ls ks i
     more-colours k = sym (stride-four all-parts k)
-
--- What four siblings are.
-record SiblingsFacts (cs ls : List ℕ) (i : ℕ) : Type 0 where
-  multiple : getD cs i 0 % 4 ^ suc (getD ls i 0) ≡ 0
-  level-b : getD ls (i + 1) 0 ≡ getD ls i 0
-  level-c : getD ls (i + 2) 0 ≡ getD ls i 0
-  level-d : getD ls (i + 3) 0 ≡ getD ls i 0
-
-siblings-facts : (n : ℕ) (cs ls : List ℕ) (i : ℕ) → fourSiblings n cs ls i ≡ true → SiblingsFacts cs ls i
-unfolding fourSiblings fourAlike
-siblings-facts n cs ls i h =
-    let h0 = and-both (ltb (getD ls i 0) n) (eqb (getD cs i 0 % 4 ^ suc (getD ls i 0)) 0 && fourAlike ls i) h in
-    let h1 = and-both (eqb (getD cs i 0 % 4 ^ suc (getD ls i 0)) 0) (fourAlike ls i) (h0 .1) in
-    let h2 = and-both (eqb (getD ls (i + 1) 0) (getD ls i 0)) (eqb (getD ls (i + 2) 0) (getD ls i 0) && eqb (getD ls (i + 3) 0) (getD ls i 0)) (h1 .1) in
-    let h3 = and-both (eqb (getD ls (i + 2) 0) (getD ls i 0)) (eqb (getD ls (i + 3) 0) (getD ls i 0)) (h2 .1) in
-    record {
-      multiple = eqb-true (getD cs i 0 % 4 ^ suc (getD ls i 0)) 0 (h1 .0);
-      level-b = eqb-true (getD ls (i + 1) 0) (getD ls i 0) (h2 .0);
-      level-c = eqb-true (getD ls (i + 2) 0) (getD ls i 0) (h3 .0);
-      level-d = eqb-true (getD ls (i + 3) 0) (getD ls i 0) (h3 .1);
-    }
-
-regroup : (a b c d e f g h : Bool) → a && (b && (c && (d && (e && (f && (g && h)))))) ≡ (a && (b && (c && (d && e)))) && (f && (g && h))
-regroup false b c d e f g h = refl
-regroup true false c d e f g h = refl
-regroup true true false d e f g h = refl
-regroup true true true false e f g h = refl
-regroup true true true true e f g h = refl
-
--- Cause 7 at the place i, in the parts that the code asks.
-mergeable-parts : (n : ℕ) (cs ls ks : List ℕ) (i : ℕ)
-    → mergeable n (blockOf cs ls ks i) (blockOf cs ls ks (i + 1)) (blockOf cs ls ks (i + 2)) (blockOf cs ls ks (i + 3)) ≡ fourSiblings n cs ls i && fourAlike ks i
-unfolding mergeable blockOf fourAlike fourSiblings
-mergeable-parts n cs ls ks i =
-    regroup (ltb (getD ls i 0) n) (eqb (getD cs i 0 % 4 ^ suc (getD ls i 0)) 0)
-    (eqb (getD ls (i + 1) 0) (getD ls i 0)) (eqb (getD ls (i + 2) 0) (getD ls i 0)) (eqb (getD ls (i + 3) 0) (getD ls i 0))
-    (eqb (getD ks (i + 1) 0) (getD ks i 0)) (eqb (getD ks (i + 2) 0) (getD ks i 0)) (eqb (getD ks (i + 3) 0) (getD ks i 0))
-
-siblings-first : (n : ℕ) (a b c d : Block) (bs : List Block) → mergeable n a b c d ≡ true → siblings n (a ∷ b ∷ c ∷ d ∷ bs) ≡ true
-unfolding siblings
-siblings-first n a b c d bs h = rw (h, siblings)
-
-siblings-later : (n : ℕ) (a b c d : Block) (bs : List Block) → mergeable n a b c d ≡ false → siblings n (a ∷ b ∷ c ∷ d ∷ bs) ≡ siblings n (b ∷ c ∷ d ∷ bs)
-unfolding siblings
-siblings-later n a b c d bs h = rw (h, siblings)
 
 siblings-few : (n : ℕ) (bs : List Block) → length bs ≤ 3 → siblings n bs ≡ false
 unfolding siblings
@@ -189,7 +147,7 @@ unfolding siblings
 siblings-after-other n a [] h = refl
 siblings-after-other n a (b ∷ []) h = refl
 siblings-after-other n a (b ∷ c ∷ []) h = refl
-siblings-after-other n a (b ∷ c ∷ d ∷ bs) h = siblings-later n a b c d bs unlike
+siblings-after-other n a (b ∷ c ∷ d ∷ bs) h = siblings-next n a b c d bs unlike
   where
     unlike : mergeable n a b c d ≡ false
     unlike = by (mergeable n a b c d) refl
@@ -207,8 +165,7 @@ between-multiples c d l m p h e =
     omega (arith, ap (λ (z : ℕ). (z + d) % w) whole)
 
 -- Four siblings of a covering list, `sum` pixels before them.
-module _ (n sum : ℕ) (a b c d : Block) (bs : List Block) (most : sum ≤ 4 ^ n) (covered : cover n sum (a ∷ b ∷ c ∷ d ∷ bs) ≡ 0)
-    (multiple : a .code % 4 ^ suc (a .level) ≡ 0) (level-b : b .level ≡ a .level) (level-c : c .level ≡ a .level) (level-d : d .level ≡ a .level) where
+module _ (n sum : ℕ) (a b c d : Block) (bs : List Block) (most : sum ≤ 4 ^ n) (covered : cover n sum (a ∷ b ∷ c ∷ d ∷ bs) ≡ 0) (f : FourSiblings n a b c d) where
   at-a : NextBlock n sum a (b ∷ c ∷ d ∷ bs)
   at-a = cover-zero n sum a (b ∷ c ∷ d ∷ bs) most covered
 
@@ -222,17 +179,18 @@ module _ (n sum : ℕ) (a b c d : Block) (bs : List Block) (most : sum ≤ 4 ^ n
   at-d = cover-zero n (sum + 4 ^ a .level + 4 ^ b .level + 4 ^ c .level) d bs (at-c .fits) (at-c .rest)
 
   no-first : (x : Block) (e : ℕ) → x .level ≡ a .level → x .code ≡ a .code + e → 0 < e → e < 4 ^ suc (a .level) → x .code % 4 ^ suc (x .level) ≡ 0 → ⊥
-  no-first x e same here p h k = between-multiples (a .code) e (a .level) multiple p h (sym (ap₂ (λ (z l : ℕ). z % 4 ^ suc l) here same) ∙ k)
+  no-first x e same here p h k = between-multiples (a .code) e (a .level) (f .multiple) p h (sym (ap₂ (λ (z l : ℕ). z % 4 ^ suc l) here same) ∙ k)
 
   -- Those after the first begin no four siblings.
   after-four : mergeable n a b c d ≡ false → siblings n (a ∷ b ∷ c ∷ d ∷ bs) ≡ siblings n bs
   after-four unlike =
-      let size-b = ap (λ (l : ℕ). 4 ^ l) level-b in
-      let size-c = ap (λ (l : ℕ). 4 ^ l) level-c in
-      siblings-later n a b c d bs unlike
-      ∙ siblings-after-other n b (c ∷ d ∷ bs) (no-first b (1 * 4 ^ a .level) level-b (omega (arith, at-a .here, at-b .here)) (omega (arith, pow4-pos (a .level))) (omega (arith, pow4-pos (a .level))))
-      ∙ siblings-after-other n c (d ∷ bs) (no-first c (2 * 4 ^ a .level) level-c (omega (arith, at-a .here, at-c .here)) (omega (arith, pow4-pos (a .level))) (omega (arith, pow4-pos (a .level))))
-      ∙ siblings-after-other n d bs (no-first d (3 * 4 ^ a .level) level-d (omega (arith, at-a .here, at-d .here)) (omega (arith, pow4-pos (a .level))) (omega (arith, pow4-pos (a .level))))
+      let size-b = ap (λ (l : ℕ). 4 ^ l) (f .level-b) in
+      let size-c = ap (λ (l : ℕ). 4 ^ l) (f .level-c) in
+      let some : 0 < 4 ^ a .level = pow4-pos (a .level) in
+      let next-b = no-first b (1 * 4 ^ a .level) (f .level-b) (omega (arith, at-a .here, at-b .here)) (omega arith) (omega arith) in
+      let next-c = no-first c (2 * 4 ^ a .level) (f .level-c) (omega (arith, at-a .here, at-c .here)) (omega arith) (omega arith) in
+      let next-d = no-first d (3 * 4 ^ a .level) (f .level-d) (omega (arith, at-a .here, at-d .here)) (omega arith) (omega arith) in
+      siblings-next n a b c d bs unlike ∙ siblings-after-other n b (c ∷ d ∷ bs) next-b ∙ siblings-after-other n c (d ∷ bs) next-c ∙ siblings-after-other n d bs next-d
 
 -- The three blocks after the place i, one by one.
 three-after : (cs ls ks : List ℕ) → EqualLengths cs ls ks → (i : ℕ) → i + 3 < length cs
@@ -243,6 +201,12 @@ three-after cs ls ks long i h =
   where
     next : (j k : ℕ) → j < length cs → j + 1 ≡ k → drop j (blocks cs ls ks) ≡ blockOf cs ls ks j ∷ drop k (blocks cs ls ks)
     next j k l e = rest-after cs ls ks long j l ∙ ap (λ (m : ℕ). blockOf cs ls ks j ∷ drop m (blocks cs ls ks)) e
+
+-- A list of n up to 8 that passes causes 2 to 6.
+pub record Covered (n : ℕ) (codes levels colours : List ℕ) : Type 0 where
+  pub small : n ≤ 8
+  pub long : EqualLengths codes levels colours
+  pub covered : cover n 0 (blocks codes levels colours) ≡ 0
 
 -- What holds at the head of the pass: cause 7 stands in the blocks from i on if anywhere, and they cover what is left.
 pub record Searched (n : ℕ) (codes levels colours : List ℕ) (i : ℕ) : Type 0 where
@@ -287,32 +251,30 @@ module _ {n : ℕ} {codes levels colours : List ℕ} (long : EqualLengths codes 
       whole : siblings n (a ∷ b ∷ c ∷ d ∷ left) ≡ siblings n (blocks codes levels colours)
       whole = sym (ap (siblings n) here) ∙ s .same
 
-      fits : mergeable n a b c d ≡ fourSiblings n codes levels i && fourAlike colours i
-      unfolding a b c d
-      fits = mergeable-parts n codes levels colours i
+      fits : mergeable n a b c d ≡ siblingsFrom n codes levels colours i && alikeFrom colours i
+      unfolding a b c d mergeable siblingsFrom alikeFrom blockOf
+      fits = refl
 
       over-one : mergeable n a b c d ≡ false → Searched n codes levels colours (i + 1)
       over-one unlike =
           let next = cover-zero n (s .sum) a (b ∷ c ∷ d ∷ left) (s .most) covered in
           record {
             within = omega arith;
-            same = ap (siblings n) three ∙ sym (siblings-later n a b c d left unlike) ∙ whole;
+            same = ap (siblings n) three ∙ sym (siblings-next n a b c d left unlike) ∙ whole;
             sum = s .sum + 4 ^ a .level;
             most = next .fits;
             rest = ap (cover n (s .sum + 4 ^ a .level)) three ∙ next .rest;
           }
 
-      over-four : fourSiblings n codes levels i ≡ true → fourAlike colours i ≡ false → Searched n codes levels colours (i + 4)
-      unfolding a b c d left blockOf
-      over-four siblings-here unlike =
-          let f = siblings-facts n codes levels i siblings-here in
-          let next = at-d n (s .sum) a b c d left (s .most) covered (f .multiple) (f .level-b) (f .level-c) (f .level-d) in
+      over-four : siblingsFrom n codes levels colours i ≡ true → alikeFrom colours i ≡ false → Searched n codes levels colours (i + 4)
+      unfolding a b c d left siblingsFrom
+      over-four four-here unlike =
+          let f = siblings-facts n a b c d four-here in
+          let next = at-d n (s .sum) a b c d left (s .most) covered f in
+          let other : mergeable n a b c d ≡ false = fits ∙ and-fail (siblingsFrom n codes levels colours i) (alikeFrom colours i) unlike in
           record {
             within = omega arith;
-            same =
-                sym (after-four n (s .sum) a b c d left (s .most) covered (f .multiple) (f .level-b) (f .level-c) (f .level-d)
-                (fits ∙ and-fail (fourSiblings n codes levels i) (fourAlike colours i) unlike))
-                ∙ whole;
+            same = sym (after-four n (s .sum) a b c d left (s .most) covered f other) ∙ whole;
             sum = s .sum + 4 ^ a .level + 4 ^ b .level + 4 ^ c .level + 4 ^ d .level;
             most = next .fits;
             rest = next .rest;
@@ -321,24 +283,26 @@ module _ {n : ℕ} {codes levels colours : List ℕ} (long : EqualLengths codes 
       -- A stride of 0 has found cause 7; any other leads on.
       module _ {r : ℕ} (e : r ≡ strideAt n codes levels colours i) where
         pub searched-found : r ≡ 0 → true ≡ siblings n (blocks codes levels colours)
-        unfolding strideAt
-        searched-found z = by (fourSiblings n codes levels i) refl (fourAlike colours i) refl
+        searched-found z = by (siblingsFrom n codes levels colours i) refl (alikeFrom colours i) refl
           where
-            by : (t : Bool) → fourSiblings n codes levels i ≡ t → (u : Bool) → fourAlike colours i ≡ u → true ≡ siblings n (blocks codes levels colours)
+            by : (t : Bool) → siblingsFrom n codes levels colours i ≡ t → (u : Bool) → alikeFrom colours i ≡ u → true ≡ siblings n (blocks codes levels colours)
             by true p true q =
-                sym (sym whole ∙ siblings-first n a b c d left (fits ∙ both-and (fourSiblings n codes levels i) (fourAlike colours i) p q))
+                let found : mergeable n a b c d ≡ true = fits ∙ both-and (siblingsFrom n codes levels colours i) (alikeFrom colours i) p q in
+                sym (sym whole ∙ siblings-here n a b c d left found)
             by true p false q = absurd (omega (arith, stride-four n codes levels colours i p q))
             by false p u q = absurd (omega (arith, stride-one n codes levels colours i p))
 
         pub searched-more : (r ≡ 0 → ⊥) → Searched n codes levels colours (i + r)
-        searched-more some = by (fourSiblings n codes levels i) refl (fourAlike colours i) refl
+        searched-more some = by (siblingsFrom n codes levels colours i) refl (alikeFrom colours i) refl
           where
-            by : (t : Bool) → fourSiblings n codes levels i ≡ t → (u : Bool) → fourAlike colours i ≡ u → Searched n codes levels colours (i + r)
+            on : (k : ℕ) → strideAt n codes levels colours i ≡ k → Searched n codes levels colours (i + k) → Searched n codes levels colours (i + r)
+            on k f = subst (λ (j : ℕ). Searched n codes levels colours (i + j)) (sym (e ∙ f))
+
+            by : (t : Bool) → siblingsFrom n codes levels colours i ≡ t → (u : Bool) → alikeFrom colours i ≡ u → Searched n codes levels colours (i + r)
             by true p true q = absurd (some (e ∙ stride-none n codes levels colours i p q))
-            by true p false q = subst (λ (k : ℕ). Searched n codes levels colours (i + k)) (sym (e ∙ stride-four n codes levels colours i p q)) (over-four p q)
+            by true p false q = on 4 (stride-four n codes levels colours i p q) (over-four p q)
             by false p u q =
-                subst (λ (k : ℕ). Searched n codes levels colours (i + k)) (sym (e ∙ stride-one n codes levels colours i p))
-                (over-one (fits ∙ and-stop (fourSiblings n codes levels i) (fourAlike colours i) p))
+                on 1 (stride-one n codes levels colours i p) (over-one (fits ∙ and-stop (siblingsFrom n codes levels colours i) (alikeFrom colours i) p))
 
     pub searched-all : length codes ≤ i + 3 → false ≡ siblings n (blocks codes levels colours)
     searched-all h =

@@ -1,13 +1,12 @@
 // Causes 3 to 7: one pass over the blocks for what they cover, one for four siblings of one colour.
 ghost use mathlib.Core.Path.{_≡_};
-ghost use mathlib.Core.List.{List};
-ghost use Prim.Native.Nat.{ℕ, _+_, _≤_, _<_, _^_};
+ghost use Prim.Native.Nat.{_+_, _≤_, _<_, _^_};
 ghost use lib.ListN.{length};
 ghost use Rattle.quadtree.specs.Blocks.{blocks};
-ghost use Rattle.quadtree.specs.Number.{cover, siblings};
-ghost use Rattle.blocks.specs.Lists.{EqualLengths};
-ghost use Rattle.blocks.specs.Covering.{faultOf};
-ghost use Rattle.blocks.specs.Siblings.{fourAlike, strideAt};
+ghost use Rattle.quadtree.specs.Number.{faultOf, siblings};
+ghost use Rattle.quadtree.specs.Lists.{EqualLengths};
+ghost use Rattle.blocks.specs.Covering.{CoverOf};
+ghost use Rattle.blocks.specs.Siblings.{alikeFrom, strideAt, Covered};
 
 // The cause among 3, 4 and 5 that a block meets where `sum` pixels are covered before it; 0 for none.
 fn block_fault(n: u32, whole: usize, sum: usize, code: u32, level: u32) -> u32
@@ -23,7 +22,7 @@ fn block_fault(n: u32, whole: usize, sum: usize, code: u32, level: u32) -> u32
     if sum == whole {
         return 4;
     }
-    if u32::trailing_zeros(code) / 2 < level {
+    if location::alignment(code) < level {
         return 5;
     }
     0
@@ -32,7 +31,7 @@ fn block_fault(n: u32, whole: usize, sum: usize, code: u32, level: u32) -> u32
 // Causes 3, 4 and 5 per block in list order, then 6. Colours do not matter here.
 pub(crate) fn cover(n: u32, codes: &[u32], levels: &[u8]) -> u32
     requires { ⌜ (n ≤ 8) × (length (now codes) ≡ length (now levels)) ⌝ }
-    ensures { λ r. ⌜ ((colours : List ℕ) → length colours ≡ length (now (levels .entry)) → r ≡ cover n 0 (blocks (now (codes .entry)) (now (levels .entry)) colours)) ⌝ }
+    ensures { λ r. ⌜ CoverOf n (now (codes .entry)) (now (levels .entry)) r ⌝ }
 {
     let whole = location::pixels(n);
     let mut sum: usize = 0;
@@ -55,7 +54,7 @@ pub(crate) fn cover(n: u32, codes: &[u32], levels: &[u8]) -> u32
 // Whether the four entries from i on are equal: asked of them as the digits of one number, one test instead of three.
 fn four_alike(list: &[u8], i: usize) -> bool
     requires { ⌜ i + 3 < length (now list) ⌝ }
-    ensures { λ r. ⌜ r ≡ fourAlike (now (list .entry)) i ⌝ }
+    ensures { λ r. ⌜ r ≡ alikeFrom (now (list .entry)) i ⌝ }
 {
     let first = list[i] as u32;
     let second = list[i + 1] as u32;
@@ -73,7 +72,7 @@ fn stride(n: u32, codes: &[u32], levels: &[u8], colours: &[u8], i: usize) -> usi
     if n <= level {
         return 1;
     }
-    if u32::trailing_zeros(codes[i]) / 2 <= level {
+    if location::alignment(codes[i]) <= level {
         return 1;
     }
     if !four_alike(levels, i) {
@@ -87,7 +86,7 @@ fn stride(n: u32, codes: &[u32], levels: &[u8], colours: &[u8], i: usize) -> usi
 
 // Cause 7 anywhere in a list that covers its image.
 pub(crate) fn siblings(n: u32, codes: &[u32], levels: &[u8], colours: &[u8]) -> bool
-    requires { ⌜ (n ≤ 8) × EqualLengths (now codes) (now levels) (now colours) × (cover n 0 (blocks (now codes) (now levels) (now colours)) ≡ 0) ⌝ }
+    requires { ⌜ Covered n (now codes) (now levels) (now colours) ⌝ }
     ensures { λ r. ⌜ r ≡ siblings n (blocks (now (codes .entry)) (now (levels .entry)) (now (colours .entry))) ⌝ }
 {
     let mut i: usize = 0;

@@ -6,16 +6,17 @@ use mathlib.Core.List.{List, []}
 use Prim.Native.Nat.{ℕ, suc, _*_, _^_, _≤_, _<_}
 use native.Mathlib.Omega.{arith}
 use lib.ListN.{length, getD, replicate, length-replicate, getD-replicate}
-use Rattle.sequences.specs.Cases.{written-accepted, written-refused}
+use Rattle.sequences.specs.Cases.{written-accepted, written-refused, count-accepted, count-refused}
 use Rattle.sequences.specs.Over.{over, over-none, over-inside, over-beyond}
 use Rattle.sequences.specs.Ranges.{tabulate}
+use Rattle.location.specs.Codes.{code}
 use Rattle.quadtree.specs.Blocks.{blocks, paint}
 use Rattle.quadtree.specs.Number.{number}
 use Rattle.quadtree.specs.Accepted.{Passes, number-zero}
 use Rattle.components.specs.Numbers.{numbers, labels, regions}
 use Rattle.components.specs.Numbered.{FirstOf, number-below-regions, each-number-given, no-other-by-least-codes}
 use Rattle.components.specs.Labels.{length-labels}
-use Rattle.components.specs.Walk.{count}
+use Rattle.components.specs.Walk.{block-count}
 use Rattle.lattice.specs.Directions.{rightOf, digit, head}
 use Rattle.lattice.specs.Walks.{outline, corners}
 use Rattle.lattice.specs.CycleForm.{cycleForm}
@@ -24,27 +25,32 @@ use Rattle.orbits.specs.Orbits.{iter}
 use Rattle.grid.specs.Map.{regionAt}
 use Rattle.grid.specs.Margins.{Margin}
 use Rattle.grid.specs.Steps.{Edge, step}
-use Rattle.grid.specs.Cycles.{cycleFrom, cycle}
+use Rattle.grid.specs.Cycles.{cycleFrom, northSide, cycle}
 use Rattle.grid.specs.Listing.{startCodes, Cycle, owners, ends, allCorners, pointsAt, cycleCount, cornerCount}
-use Rattle.grid.specs.Listed.{SidesOnce, OutlinesListed, listing-length, points-at, outline-at, ring-at, each-side-once, all-outlines-listed}
+use Rattle.grid.specs.Listed.{OnceIn, SidesOnce, OutlinesListed, listing-length, points-at, outline-at, ring-at, each-side-once, pixel-side-once, all-outlines-listed}
 use Rattle.grid.specs.Undoing.{back, step-edge}
-use Rattle.grid.specs.Returning.{edge-returns, back-edge, step-back, step-injective, cycles-equal-or-apart}
+use Rattle.grid.specs.Returning.{Ring, edge-returns, back-edge, step-back, step-injective, cycles-equal-or-apart}
 use Rattle.grid.specs.Bounds.{cycles-fit, corner-count-fits}
 use Rattle.grid.specs.Forms.{listed-is-cycle-form}
 use Rattle.grid.specs.Outer.{OuterAt, first-is-outer, region-has-first}
+use Rattle.grid.specs.Sides.{sideOf, beyond}
 use Rattle.grid.specs.Starting.{margin}
 use Rattle.grid.specs.Stretches.{length-owners, length-ends, last-end}
 use Rattle.grid.specs.Pinches.{meeting-turns-right}
-use Rattle.paths.specs.Stretch.{stretchOf}
-use Rattle.regions.specs.Promise.{Numbering, count-accepted, count-refused, numbered}
+use Rattle.stretches.specs.Stretch.{stretchOf}
+use Rattle.regions.specs.Promise.{Numbering, numbered}
 use Rattle.regions.specs.Callers.{labelOfPixel, labels-by-least-codes}
 use Rattle.tracing.specs.Tracing.{Lent, tracingNumber, outlinesOf, cyclesWritten, labelsLeft, zerosLeft, regionsListed, Tracing, Needs, needs-met, none-short}
 use Rattle.tracing.specs.declared.Traced.{Traced}
-use Rattle.callers.specs.Reading.{cyclesHeld, stretch-is-cycle, cycles-read-back}
+use Rattle.held.specs.Held.{cyclesHeld, stretch-is-cycle, cycles-read-back}
 
 -- The cycles that the lists at exit hold, up to the count: each owner, and for each cycle the stretch of the corner list.
 abbrev pub heldAt : Lent → Traced → List Cycle
 heldAt after r = cyclesHeld (after .ownerList) (after .endList) (after .cornerList) (r .cycles)
+
+-- The unit sides of the outline k, walked from its stretch of the corner list.
+abbrev pub sidesAt : Lent → Traced → ℕ → List ℕ
+sidesAt after r k = outline (stretchOf (after .cornerList) (after .endList) (r .cycles) k)
 
 -- The region numbers of the pixels, and the start pixels of all cycles in the order of the listing.
 abbrev pub numbersOf : ℕ → List ℕ → List ℕ → List ℕ → List ℕ
@@ -62,6 +68,27 @@ pub record RuleOfSteps (m : ℕ → ℕ → ℕ) (r : ℕ) : Type 0 where
   pub comes-again : (e : ℕ) → Edge m r e → (k : ℕ) × (0 < k) × (iter (step m) k e ≡ e)
   pub equal-or-apart : (a b : ℕ) → Edge m r a → Edge m r b
       → ((c : ℕ) → In c (cycleFrom m a) ↔ In c (cycleFrom m b)) ⊎ ((c : ℕ) → In c (cycleFrom m a) → In c (cycleFrom m b) → ⊥)
+
+-- "the edges the rule runs through from one edge until that edge comes again": after each side of an outline comes the side that the rule
+-- of steps gives, and after the last the first.
+pub record RunsThrough (m : ℕ → ℕ → ℕ) (sides : List ℕ) : Type 0 where
+  pub next-side : (i : ℕ) → suc i < length sides → getD sides (suc i) 0 ≡ step m (getD sides i 0)
+  pub comes-again : (i : ℕ) → suc i ≡ length sides → getD sides 0 0 ≡ step m (getD sides i 0)
+
+ring-runs : {m : ℕ → ℕ → ℕ} {r e : ℕ} → Ring m r e → RunsThrough m (cycleFrom m e)
+unfolding iter
+ring-runs {m} {r} {e} g = record {
+  next-side = λ i l. next i (g .size) (subst (λ (z : ℕ). suc i < z) (g .long) l) (g .at);
+  comes-again = λ i l. g .at 0 (g .returns .positive) ∙ sym (g .returns .back) ∙ last i (g .size) (l ∙ g .long) (g .at);
+}
+  where
+    next : (i size : ℕ) → suc i < size → ((j : ℕ) → j < size → getD (cycleFrom m e) j 0 ≡ iter (step m) j e)
+        → getD (cycleFrom m e) (suc i) 0 ≡ step m (getD (cycleFrom m e) i 0)
+    next i size l at = let h : i < size = omega arith in at (suc i) l ∙ ap (step m) (sym (at i h))
+
+    last : (i size : ℕ) → suc i ≡ size → ((j : ℕ) → j < size → getD (cycleFrom m e) j 0 ≡ iter (step m) j e)
+        → iter (step m) size e ≡ step m (getD (cycleFrom m e) i 0)
+    last i size l at = let h : i < size = omega arith in ap (λ (z : ℕ). iter (step m) z e) (sym l) ∙ ap (step m) (sym (at i h))
 
 -- What an accepted tracing answers, and what it leaves in the lists, which were lent as `before` and are `after` now.
 pub record AtExit (n : ℕ) (cs ls ks : List ℕ) (before after : Lent) (r : Traced) : Type 0 where
@@ -86,12 +113,17 @@ pub record AtExit (n : ℕ) (cs ls ks : List ℕ) (before after : Lent) (r : Tra
   pub outlines : OutlinesListed n (numbersOf n cs ls ks) (heldAt after r) (startsOf n cs ls ks)
   -- each side between a region and what is not that region in exactly one of its outlines, once, and nothing else
   pub sides : SidesOnce (regionAt n (numbersOf n cs ls ks)) (heldAt after r)
+  -- so for the side of a pixel beyond which lies another region or the outside
+  pub pixel-sides : (x y d : ℕ) → x < 2 ^ n → y < 2 ^ n → d < 4
+      → beyond (regionAt n (numbersOf n cs ls ks)) x y d ≢ regionAt n (numbersOf n cs ls ks) (suc x) (suc y)
+      → OnceIn (heldAt after r) (getD (numbersOf n cs ls ks) (code n x y) 0) (sideOf x y d)
   -- the stretch of cycle k is exactly the corners of the k-th cycle, from its start
   pub stretch : (k : ℕ) → k < r .cycles
       → stretchOf (after .cornerList) (after .endList) (r .cycles) k ≡ corners (cycle n (numbersOf n cs ls ks) (getD (startsOf n cs ls ks) k 0))
   -- its unit sides are the edges that the rule runs through from its start, in their order
-  pub walked : (k : ℕ) → k < r .cycles
-      → outline (stretchOf (after .cornerList) (after .endList) (r .cycles) k) ≡ cycle n (numbersOf n cs ls ks) (getD (startsOf n cs ls ks) k 0)
+  pub walked : (k : ℕ) → k < r .cycles → sidesAt after r k ≡ cycle n (numbersOf n cs ls ks) (getD (startsOf n cs ls ks) k 0)
+  -- each of them is followed by the step of the rule
+  pub stepwise : (k : ℕ) → k < r .cycles → RunsThrough (regionAt n (numbersOf n cs ls ks)) (sidesAt after r k)
   -- it is a cycle form
   pub cycle-form : (k : ℕ) → k < r .cycles → cycleForm (stretchOf (after .cornerList) (after .endList) (r .cycles) k) ≡ true
   -- the first cycle of a region is its outer one; every region has one
@@ -99,10 +131,10 @@ pub record AtExit (n : ℕ) (cs ls ks : List ℕ) (before after : Lent) (r : Tra
       → OuterAt n (numbersOf n cs ls ks) (heldAt after r) k (getD (startsOf n cs ls ks) k 0)
   pub each-region : (v : ℕ) → v < r .regions
       → (k : ℕ) × (k < r .cycles) × (getD (after .ownerList) k 0 ≡ v) × ((j : ℕ) → j < k → getD (after .ownerList) j 0 ≢ getD (after .ownerList) k 0)
-  -- an outline that meets itself at a point turns right there: the edge after its side i does, which by `walked` is its next side
-  pub meeting : (k i j : ℕ) → k < r .cycles → i < length (outline (pointsAt (heldAt after r) k)) → j < length (outline (pointsAt (heldAt after r) k)) → i ≢ j
-      → head (getD (outline (pointsAt (heldAt after r) k)) i 0) ≡ head (getD (outline (pointsAt (heldAt after r) k)) j 0)
-      → digit (step (regionAt n (numbersOf n cs ls ks)) (getD (outline (pointsAt (heldAt after r) k)) i 0)) ≡ rightOf (digit (getD (outline (pointsAt (heldAt after r) k)) i 0))
+  -- an outline that meets itself at a point turns right there: the step after its side i does, which by `stepwise` is its next side
+  pub meeting : (k i j : ℕ) → k < r .cycles → i < length (sidesAt after r k) → j < length (sidesAt after r k) → i ≢ j
+      → head (getD (sidesAt after r k) i 0) ≡ head (getD (sidesAt after r k) j 0)
+      → digit (step (regionAt n (numbersOf n cs ls ks)) (getD (sidesAt after r k) i 0)) ≡ rightOf (digit (getD (sidesAt after r k) i 0))
   -- "On acceptance the work list's first 2 times 4^n entries are 0, and entries beyond those a list needs for its answer are unchanged"
   pub work-cleared : (i : ℕ) → i < 2 * 4 ^ n → getD (after .workList) i 0 ≡ 0
   pub work-kept : (i : ℕ) → 2 * 4 ^ n ≤ i → getD (after .workList) i 0 ≡ getD (before .workList) i 0
@@ -208,15 +240,14 @@ module _ {n : ℕ} {cs ls ks : List ℕ} {before after : Lent} {r : Traced} (p :
         ap₂ (λ (os es : List ℕ). cyclesHeld os es (after .cornerList) (r .cycles)) owners-are ends-are
         ∙ ap₂ (λ (ps : List ℕ) (k : ℕ). cyclesHeld (over (owners (outlinesOf n cs ls ks)) (before .ownerList)) (over (ends (outlinesOf n cs ls ks)) (before .endList)) ps k) points-are cycles-are
         ∙ cycles-read-back (outlinesOf n cs ls ks) (before .ownerList) (before .endList) (before .cornerList)
-        (omega (arith, cycles-few, met .for-ends)) (omega (arith, corners-few, met .for-corners))
 
     -- The stretch of cycle k is the corners of the k-th cycle.
     stretch-is : (k : ℕ) → k < r .cycles → stretchOf (after .cornerList) (after .endList) (r .cycles) k ≡ pointsAt (outlinesOf n cs ls ks) k
     stretch-is k h =
         ap₂ (λ (ps es : List ℕ). stretchOf ps es (r .cycles) k) points-are ends-are
         ∙ ap (λ (c : ℕ). stretchOf (over (allCorners (outlinesOf n cs ls ks)) (before .cornerList)) (over (ends (outlinesOf n cs ls ks)) (before .endList)) c k) cycles-are
-        ∙ stretch-is-cycle (outlinesOf n cs ls ks) (before .ownerList) (before .endList) (before .cornerList)
-        (omega (arith, cycles-few, met .for-ends)) (omega (arith, corners-few, met .for-corners)) k (omega (arith, cycles-are))
+        ∙ stretch-is-cycle (outlinesOf n cs ls ks) (before .ownerList) (before .endList) (before .cornerList) k
+        (omega (arith, cycles-are))
 
     owner-is : (k : ℕ) → k < r .cycles → getD (after .ownerList) k 0 ≡ getD (owners (outlinesOf n cs ls ks)) k 0
     owner-is k h =
@@ -255,21 +286,29 @@ module _ {n : ℕ} {cs ls ks : List ℕ} {before after : Lent} {r : Traced} (p :
         let k : w .0 < r .cycles = omega (arith, w .1, cycles-are) in
         (w .0, k, owner-is (w .0) k ∙ w .2 ∙ g .value, λ j i e. w .3 j i (sym (owner-is j (omega arith)) ∙ e ∙ owner-is (w .0) k))
 
-    meets : (k i j : ℕ) → k < length (outlinesOf n cs ls ks) → i < length (outline (pointsAt (outlinesOf n cs ls ks) k)) → j < length (outline (pointsAt (outlinesOf n cs ls ks) k)) → i ≢ j
-        → head (getD (outline (pointsAt (outlinesOf n cs ls ks) k)) i 0) ≡ head (getD (outline (pointsAt (outlinesOf n cs ls ks) k)) j 0)
-        → digit (step (regionAt n (numbersOf n cs ls ks)) (getD (outline (pointsAt (outlinesOf n cs ls ks) k)) i 0)) ≡ rightOf (digit (getD (outline (pointsAt (outlinesOf n cs ls ks) k)) i 0))
-    unfolding outlinesOf cycle
-    meets k i j h a b d e =
+    -- The sides of the outline k are the edges that the rule runs through from its start.
+    ring-of : (k : ℕ) → k < length (outlinesOf n cs ls ks)
+        → Ring (regionAt n (numbersOf n cs ls ks)) (suc (getD (numbersOf n cs ls ks) (getD (startsOf n cs ls ks) k 0) 0)) (northSide n (getD (startsOf n cs ls ks) k 0))
+    unfolding outlinesOf
+    ring-of k h = ring-at n (numbersOf n cs ls ks) (regions n (paint (blocks cs ls ks))) small k h
+
+    runs : (k : ℕ) → k < length (outlinesOf n cs ls ks) → RunsThrough (regionAt n (numbersOf n cs ls ks)) (cycle n (numbersOf n cs ls ks) (getD (startsOf n cs ls ks) k 0))
+    unfolding cycle
+    runs k h = ring-runs (ring-of k h)
+
+    meets : (k i j : ℕ) → k < length (outlinesOf n cs ls ks) → (sides : List ℕ) → sides ≡ cycle n (numbersOf n cs ls ks) (getD (startsOf n cs ls ks) k 0)
+        → i < length sides → j < length sides → i ≢ j → head (getD sides i 0) ≡ head (getD sides j 0)
+        → digit (step (regionAt n (numbersOf n cs ls ks)) (getD sides i 0)) ≡ rightOf (digit (getD sides i 0))
+    unfolding cycle
+    meets k i j h sides o a b d e =
         let nums : List ℕ = numbersOf n cs ls ks in
-        let regs : ℕ = regions n (paint (blocks cs ls ks)) in
-        let o = outline-at n nums regs small k h in
-        let g = ring-at n nums regs small k h in
-        let sides : List ℕ = outline (pointsAt (outlinesOf n cs ls ks) k) in
+        let r : ℕ = suc (getD nums (getD (startsOf n cs ls ks) k 0) 0) in
+        let g = ring-of k h in
         let distinct : Distinct sides = subst Distinct (sym o) (g .once) in
-        let on : (x : ℕ) → x < length sides → Edge (regionAt n nums) (suc (getD nums (getD (startsOf n cs ls ks) k 0) 0)) (getD sides x 0) =
+        let on : (x : ℕ) → x < length sides → Edge (regionAt n nums) r (getD sides x 0) =
         λ x y. g .edges (getD sides x 0) (subst (In (getD sides x 0)) o (x, y, refl)) in
-        meeting-turns-right (regionAt n nums) (margin n nums small) (suc (getD nums (getD (startsOf n cs ls ks) k 0) 0)) (getD sides i 0) (getD sides j 0)
-        (on i a) (on j b) (λ q. d (one-place sides distinct i j a b q)) e
+        meeting-turns-right (regionAt n nums) (margin n nums small) r (getD sides i 0) (getD sides j 0) (on i a) (on j b)
+        (λ q. d (one-place sides distinct i j a b q)) e
 
     starts-long : length (outlinesOf n cs ls ks) ≡ length (startsOf n cs ls ks)
     unfolding outlinesOf
@@ -283,6 +322,12 @@ module _ {n : ℕ} {cs ls ks : List ℕ} {before after : Lent} {r : Traced} (p :
     unfolding outlinesOf
     once = each-side-once n (numbersOf n cs ls ks) (regions n (paint (blocks cs ls ks))) small known
 
+    pixel-once : (x y d : ℕ) → x < 2 ^ n → y < 2 ^ n → d < 4
+        → beyond (regionAt n (numbersOf n cs ls ks)) x y d ≢ regionAt n (numbersOf n cs ls ks) (suc x) (suc y)
+        → OnceIn (outlinesOf n cs ls ks) (getD (numbersOf n cs ls ks) (code n x y) 0) (sideOf x y d)
+    unfolding outlinesOf
+    pixel-once = pixel-side-once n (numbersOf n cs ls ks) (regions n (paint (blocks cs ls ks))) small known
+
     points-are-corners : (k : ℕ) → k < length (outlinesOf n cs ls ks) → pointsAt (outlinesOf n cs ls ks) k ≡ corners (cycle n (numbersOf n cs ls ks) (getD (startsOf n cs ls ks) k 0))
     unfolding outlinesOf
     points-are-corners k h = points-at n (numbersOf n cs ls ks) (regions n (paint (blocks cs ls ks))) k (omega (arith, starts-long))
@@ -290,6 +335,9 @@ module _ {n : ℕ} {cs ls ks : List ℕ} {before after : Lent} {r : Traced} (p :
     sides-are-cycle : (k : ℕ) → k < length (outlinesOf n cs ls ks) → outline (pointsAt (outlinesOf n cs ls ks) k) ≡ cycle n (numbersOf n cs ls ks) (getD (startsOf n cs ls ks) k 0)
     unfolding outlinesOf
     sides-are-cycle k h = outline-at n (numbersOf n cs ls ks) (regions n (paint (blocks cs ls ks))) small k h
+
+    sides-walked : (k : ℕ) → k < r .cycles → sidesAt after r k ≡ cycle n (numbersOf n cs ls ks) (getD (startsOf n cs ls ks) k 0)
+    sides-walked k h = ap outline (stretch-is k h) ∙ sides-are-cycle k (omega (arith, cycles-are))
 
     form : (k : ℕ) → k < length (outlinesOf n cs ls ks) → cycleForm (pointsAt (outlinesOf n cs ls ks) k) ≡ true
     unfolding outlinesOf
@@ -333,23 +381,21 @@ module _ {n : ℕ} {cs ls ks : List ℕ} {before after : Lent} {r : Traced} (p :
       rule = rule-of-steps;
       outlines = subst (λ (c : List Cycle). OutlinesListed n (numbersOf n cs ls ks) c (startsOf n cs ls ks)) (sym lists-hold-the-listing) listed;
       sides = subst (SidesOnce (regionAt n (numbersOf n cs ls ks))) (sym lists-hold-the-listing) once;
+      pixel-sides = λ x y d a b h other.
+          subst (λ (c : List Cycle). OnceIn c (getD (numbersOf n cs ls ks) (code n x y) 0) (sideOf x y d)) (sym lists-hold-the-listing) (pixel-once x y d a b h other);
       stretch = λ k h. stretch-is k h ∙ points-are-corners k (omega (arith, cycles-are));
-      walked = λ k h. ap outline (stretch-is k h) ∙ sides-are-cycle k (omega (arith, cycles-are));
+      walked = sides-walked;
+      stepwise = λ k h. subst (RunsThrough (regionAt n (numbersOf n cs ls ks))) (sym (sides-walked k h)) (runs k (omega (arith, cycles-are)));
       cycle-form = λ k h. ap cycleForm (stretch-is k h) ∙ form k (omega (arith, cycles-are));
       outer = λ k h first. subst (λ (c : List Cycle). OuterAt n (numbersOf n cs ls ks) c k (getD (startsOf n cs ls ks) k 0)) (sym lists-hold-the-listing) (first-outer k h first);
       each-region = region-first;
-      meeting = λ k i j h.
-          subst (λ (c : List Cycle).
-          i < length (outline (pointsAt c k)) → j < length (outline (pointsAt c k)) → i ≢ j
-          → head (getD (outline (pointsAt c k)) i 0) ≡ head (getD (outline (pointsAt c k)) j 0)
-          → digit (step (regionAt n (numbersOf n cs ls ks)) (getD (outline (pointsAt c k)) i 0)) ≡ rightOf (digit (getD (outline (pointsAt c k)) i 0)))
-          (sym lists-hold-the-listing) (meets k i j (omega (arith, cycles-are)));
+      meeting = λ k i j h. meets k i j (omega (arith, cycles-are)) (sidesAt after r k) (sides-walked k h);
       work-cleared = λ i h.
           ap (λ (w : List ℕ). getD w i 0) work-is ∙ over-inside (replicate (2 * 4 ^ n) 0) (before .workList) i (omega (arith, zeros-long)) ∙ getD-replicate (2 * 4 ^ n) i 0 0 h;
       work-kept = λ i h. ap (λ (w : List ℕ). getD w i 0) work-is ∙ over-beyond (replicate (2 * 4 ^ n) 0) (before .workList) i (omega (arith, zeros-long));
       labels-kept = λ i h.
           ap (λ (w : List ℕ). getD w i 0) labels-are
-          ∙ over-beyond (labels n (blocks cs ls ks)) (before .labelList) i (omega (arith, length-labels n (blocks cs ls ks), count passes));
+          ∙ over-beyond (labels n (blocks cs ls ks)) (before .labelList) i (omega (arith, length-labels n (blocks cs ls ks), block-count passes));
       owners-kept = λ i h.
           ap (λ (w : List ℕ). getD w i 0) owners-are
           ∙ over-beyond (owners (outlinesOf n cs ls ks)) (before .ownerList) i (omega (arith, length-owners (outlinesOf n cs ls ks), cycles-are));

@@ -1,3 +1,3 @@
--- What the tracing's promise says where a caller stands.
-pub mod Reading
+-- What the promises of the library's functions say where a caller stands.
 pub mod Demand3
+pub mod PathData

@@ -11,13 +11,13 @@ use Rattle.sequences.specs.Ranges.{tabulate, length-tabulate, tabulate-at}
 use Rattle.quadtree.specs.Blocks.{Block, pixels, paint}
 use Rattle.quadtree.specs.Number.{cover}
 use Rattle.unions.specs.Pairs.{Pair, Linked}
-use Rattle.unions.specs.Representatives.{rep, rep-links, linked-rep, rep-le, rep-twice, rep-least, linked-to-rep}
-use Rattle.unions.specs.Counting.{below, below-most, numberOf, counted, number-of-own, number-less, number-linked, CountsUp}
+use Rattle.unions.specs.Representatives.{rep, rep-links, linked-rep, rep-le, rep-twice}
+use Rattle.unions.specs.Counting.{below, numberOf, counted, number-of-own, number-less, number-linked, CountsUp}
 use Rattle.unions.specs.Roots.{root}
-use Rattle.unions.specs.Numbering.{numbersBelow, length-numbersBelow, numbers-at}
-use Rattle.components.specs.Joined.{Connected, Joined, connected-to}
-use Rattle.components.specs.Numbers.{representatives, numbers, regions, labels}
-use Rattle.components.specs.Numbered.{RegionNumbers, no-other-numbering, each-number-given, number-below-regions, joined-to-representative, representative-is-least}
+use Rattle.unions.specs.RootNumbers.{numbersBelow, length-numbersBelow, numbers-at}
+use Rattle.components.specs.Joined.{Connected, Joined}
+use Rattle.components.specs.Numbers.{numbers, regions, labels}
+use Rattle.components.specs.Numbered.{RegionNumbers, no-other-numbering, each-number-given, number-below-regions}
 use Rattle.components.specs.Holders.{holder, HoldsAt, pixels-grow, is-holder, pixel-held, first-pixel-held, held-in-image}
 use Rattle.components.specs.Labels.{all-first-pixels, label-of-held, length-labels}
 use Rattle.components.specs.BlockPairs.{blockPairs}
@@ -45,22 +45,6 @@ module _ (n : ℕ) (bs : List Block) (covering : cover n 0 bs ≡ 0) where
   linked-exactly-when-joined i j c d f g =
       subst (λ (m : ℕ). Linked (blockPairs n bs (length bs)) i j ↔ Connected n (paint bs) m c d) (all-first-pixels n bs covering)
       (linked-exactly-when-connected n bs covering (length bs) (omega arith) i j c d (f .place) (g .place) f g)
-
-  -- The least block of a class holds its least code, as its first pixel.
-  pub least-block-holds-least-code : (i c : ℕ) → HoldsAt bs i c
-      → getD (representatives n (paint bs)) c 0 ≡ pixels (take (rep (blockPairs n bs (length bs)) i) bs)
-  unfolding all
-  least-block-holds-least-code i c f =
-      let inside : c < 4 ^ n = held-in-image n bs covering i c f in
-      let least : ℕ = getD (representatives n (paint bs)) c 0 in
-      let b : ℕ = rep all i in
-      let first = first-pixel-held n bs covering b (omega (arith, rep-le all i, f .place)) in
-      let to-first : Joined n (paint bs) c (pixels (take b bs)) = linked-exactly-when-joined i b c (pixels (take b bs)) f first .0 (linked-to-rep all i) in
-      let low : least ≤ pixels (take b bs) = representative-is-least n (paint bs) c (pixels (take b bs)) to-first inside in
-      let to-least : Joined n (paint bs) c least = joined-to-representative n (paint bs) c inside in
-      let held = pixel-held n bs covering least (connected-to to-least) in
-      let before : b ≤ holder bs least = rep-least all i (holder bs least) (linked-exactly-when-joined i (holder bs least) c least f held .1 to-least) in
-      omega (arith, low, pixels-grow bs b (holder bs least) before, held .from)
 
   -- ---- numbers of blocks are labels
 
@@ -152,6 +136,3 @@ module _ (n : ℕ) (bs : List Block) (covering : cover n 0 bs ≡ 0) where
           ∙ w .value in
           absurd (omega (arith, at, number-below-regions n (paint bs) c (held-in-image n bs covering (w .at) c first)))
       pick (no g) (no h) = omega arith
-
-  pub regions-at-most-blocks : regions n (paint bs) ≤ length bs
-  regions-at-most-blocks = omega (arith, block-count-is-regions, below-most (rep (blockPairs n bs (length bs))) (length bs))

@@ -14,7 +14,7 @@ use Rattle.location.specs.Codes.{code, column, row}
 use Rattle.quadtree.specs.Blocks.{Block, blocks}
 use Rattle.quadtree.specs.Fields.{colours}
 use Rattle.staircase.specs.Staircase.{done}
-use Rattle.staircase.specs.Rows.{count}
+use Rattle.staircase.specs.Rows.{countTrue}
 use Rattle.unions.specs.Pairs.{Pair, pairOf}
 use Rattle.unions.specs.Joining.{onto, onto-old, onto-new, onto-cases}
 use Rattle.components.specs.Holders.{blockAt}
@@ -50,7 +50,7 @@ northPairs n bs k =
 -- Of the blocks 2 and 3 north of block 5 only the second has its colour: "a large block has many" neighbours (document 01, "Traps in
 -- this trade").
 all-neighbours-asked : northPairs 2 (blocks (0 ∷ 1 ∷ 2 ∷ 3 ∷ 4 ∷ 8 ∷ 12 ∷ []) (0 ∷ 0 ∷ 0 ∷ 0 ∷ 1 ∷ 1 ∷ 1 ∷ []) (1 ∷ 1 ∷ 2 ∷ 1 ∷ 1 ∷ 1 ∷ 3 ∷ [])) 5 ≡ pairOf 3 5 ∷ []
-unfolding northPairs blocks count done
+unfolding northPairs blocks countTrue done
 all-neighbours-asked = refl
 
 -- With the blocks west of it: the last ones in its rows.
@@ -198,7 +198,7 @@ older-pairs : (n : ℕ) (bs : List Block) (k : ℕ) (e : Pair) → List·Memᴰ 
 older-pairs n bs k e m =
     rw (pairs-one-more n bs k) (onto-old (westPairs n bs k) (onto (northPairs n bs k) (blockPairs n bs k)) e (onto-old (northPairs n bs k) (blockPairs n bs k) e m))
 
-pub pairs-of-later : (n : ℕ) (bs : List Block) (i k : ℕ) (e : Pair) → i ≤ k → List·Memᴰ e (blockPairs n bs i) → List·Memᴰ e (blockPairs n bs k)
+pairs-of-later : (n : ℕ) (bs : List Block) (i k : ℕ) (e : Pair) → i ≤ k → List·Memᴰ e (blockPairs n bs i) → List·Memᴰ e (blockPairs n bs k)
 pairs-of-later n bs i zero e h m = let z : i ≡ 0 = omega arith in rw z at m
 pairs-of-later n bs i (suc k) e h m = pick (eq-or-lt-of-le h) (pairs-of-later n bs i k e)
   where

@@ -7,7 +7,7 @@ use lib.ListN.{getD}
 use Rattle.sequences.specs.Powers.{pow2-pos}
 use Rattle.location.specs.Codes.{code, column, row}
 use Rattle.location.specs.Interleaving.{column-below, row-below, column-of-code, row-of-code, code-of-coordinates}
-use Rattle.location.specs.Squares.{block-is-square, square-in-image}
+use Rattle.location.specs.Squares.{block-is-square, pixel-in-block, square-in-image}
 use Rattle.components.specs.Joined.{Step, north, west, Connected, start, connected-through, connected-step}
 
 -- The square of level l at the code d, all its pixels among the codes below m and of one colour.
@@ -22,10 +22,6 @@ module _ (n : ℕ) (px : List ℕ) (m l d : ℕ) (s : OneColour n px m l d) wher
   fits : (column n d + 2 ^ l ≤ 2 ^ n) × (row n d + 2 ^ l ≤ 2 ^ n) × (d + 4 ^ l ≤ 4 ^ n)
   fits = square-in-image n l d (s .level) (s .room) (s .multiple)
 
-  in-square : (x y : ℕ) → column n d ≤ x → x < column n d + 2 ^ l → row n d ≤ y → y < row n d + 2 ^ l → (d ≤ code n x y) × (code n x y < d + 4 ^ l)
-  in-square x y a b e f =
-      block-is-square n l d (s .level) (s .room) (s .multiple) x y (omega (arith, fits)) (omega (arith, fits)) .1 (a, b, e, f)
-
   -- One step inside the square.
   inner-step : (c e : ℕ) → d ≤ c → c < d + 4 ^ l → d ≤ e → e < d + 4 ^ l → Step n c e → Connected n px m c e
   inner-step c e a b f g t =
@@ -35,14 +31,14 @@ module _ (n : ℕ) (px : List ℕ) (m l d : ℕ) (s : OneColour n px m l d) wher
 
   to-west : (k y : ℕ) → k < 2 ^ l → row n d ≤ y → y < row n d + 2 ^ l → Connected n px m (code n (column n d + k) y) (code n (column n d) y)
   to-west zero y h e f =
-      let q = in-square (column n d) y (omega arith) (omega (arith, pow2-pos l)) e f in
+      let q = pixel-in-block n l d (s .level) (s .room) (s .multiple) (column n d) y (omega arith) (omega (arith, pow2-pos l)) e f in
       let z : column n d + 0 ≡ column n d = omega arith in
       rw z (start (omega (arith, s .within)))
   to-west (suc k) y h e f =
       let x : ℕ = column n d + k in
       let x′ : ℕ = column n d + suc k in
-      let p = in-square x′ y (omega arith) (omega arith) e f in
-      let q = in-square x y (omega arith) (omega arith) e f in
+      let p = pixel-in-block n l d (s .level) (s .room) (s .multiple) x′ y (omega arith) (omega arith) e f in
+      let q = pixel-in-block n l d (s .level) (s .room) (s .multiple) x y (omega arith) (omega arith) e f in
       let cx : column n (code n x y) ≡ x = column-of-code n x y (omega (arith, fits)) in
       let cx′ : column n (code n x′ y) ≡ x′ = column-of-code n x′ y (omega (arith, fits)) in
       let cy : row n (code n x y) ≡ y = row-of-code n x y (omega (arith, fits)) in
@@ -51,15 +47,15 @@ module _ (n : ℕ) (px : List ℕ) (m l d : ℕ) (s : OneColour n px m l d) wher
 
   to-north : (k : ℕ) → k < 2 ^ l → Connected n px m (code n (column n d) (row n d + k)) (code n (column n d) (row n d))
   to-north zero h =
-      let q = in-square (column n d) (row n d) (omega arith) (omega (arith, pow2-pos l)) (omega arith) (omega (arith, pow2-pos l)) in
+      let q = pixel-in-block n l d (s .level) (s .room) (s .multiple) (column n d) (row n d) (omega arith) (omega (arith, pow2-pos l)) (omega arith) (omega (arith, pow2-pos l)) in
       let z : row n d + 0 ≡ row n d = omega arith in
       rw z (start (omega (arith, s .within)))
   to-north (suc k) h =
       let x : ℕ = column n d in
       let y : ℕ = row n d + k in
       let y′ : ℕ = row n d + suc k in
-      let p = in-square x y′ (omega arith) (omega (arith, pow2-pos l)) (omega arith) (omega arith) in
-      let q = in-square x y (omega arith) (omega (arith, pow2-pos l)) (omega arith) (omega arith) in
+      let p = pixel-in-block n l d (s .level) (s .room) (s .multiple) x y′ (omega arith) (omega (arith, pow2-pos l)) (omega arith) (omega arith) in
+      let q = pixel-in-block n l d (s .level) (s .room) (s .multiple) x y (omega arith) (omega (arith, pow2-pos l)) (omega arith) (omega arith) in
       let cx : column n (code n x y) ≡ x = column-of-code n x y (omega (arith, fits, pow2-pos l)) in
       let cx′ : column n (code n x y′) ≡ x = column-of-code n x y′ (omega (arith, fits, pow2-pos l)) in
       let cy : row n (code n x y) ≡ y = row-of-code n x y (omega (arith, fits)) in

@@ -1,9 +1,8 @@
 -- Pixels that belong together: a 4-connected path of one colour joins them.
-use mathlib.Core.Path.{_≡_, refl, sym, _∙_, subst}
+use mathlib.Core.Path.{_≡_, refl, sym, _∙_}
 use mathlib.Core.Logic.{_≢_}
 use mathlib.Core.List.{List}
-use Prim.Native.Nat.{ℕ, suc, _^_, _≤_, _<_}
-use native.Mathlib.Omega.{arith}
+use Prim.Native.Nat.{ℕ, suc, _^_, _<_}
 use lib.ListN.{getD}
 use Rattle.location.specs.Codes.{column, row}
 
@@ -78,11 +77,3 @@ module _ {n : ℕ} {px : List ℕ} {m : ℕ} where
   pub connected-colour : {c d : ℕ} → Connected n px m c d → getD px d 0 ≡ getD px c 0
   connected-colour (start h) = refl
   connected-colour (on p b l e) = e ∙ connected-colour p
-
-  pub connected-at : {c d d′ : ℕ} → d ≡ d′ → Connected n px m c d → Connected n px m c d′
-  connected-at {c} e p = subst (λ (x : ℕ). Connected n px m c x) e p
-
--- More pixels allow no fewer paths.
-pub connected-wider : (n : ℕ) (px : List ℕ) {m k c d : ℕ} → m ≤ k → Connected n px m c d → Connected n px k c d
-connected-wider n px h (start l) = start (omega arith)
-connected-wider n px h (on p b l e) = on (connected-wider n px h p) b (omega arith) e

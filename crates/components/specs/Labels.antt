@@ -1,11 +1,12 @@
 -- Labels: all pixels of a block have one region number, and the labels of two blocks are equal exactly when their pixels are joined.
-use mathlib.Core.Path.{_≡_, refl, sym, ap, _∙_}
+use mathlib.Core.Path.{_≡_, sym, ap, _∙_}
 use mathlib.Core.Logic.{_↔_}
-use mathlib.Core.List.{List, [], _∷_, map}
-use Prim.Native.Nat.{ℕ, zero, suc, _^_, _<_}
+use mathlib.Core.List.{List}
+use Prim.Native.Nat.{ℕ, suc, _^_, _<_}
 use native.Mathlib.Omega.{arith}
 use lib.ListN.{length, take, getD, length-map}
 use lib.Seq.{take-length}
+use Rattle.sequences.specs.Maps.{getD-map}
 use Rattle.quadtree.specs.Blocks.{Block, blocks, pixels, paint}
 use Rattle.quadtree.specs.Number.{cover, number}
 use Rattle.staircase.specs.FirstBlocks.{Within, all-pixels, accepted-covers}
@@ -19,14 +20,9 @@ pub length-labels : (n : ℕ) (bs : List Block) → length (labels n bs) ≡ len
 unfolding labels
 length-labels n bs = length-map bs _
 
-getD-of-map : (f : Block → ℕ) (bs : List Block) (i : ℕ) → i < length bs → getD (map f bs) i 0 ≡ f (blockAt bs i)
-getD-of-map f [] i h = absurd (omega arith)
-getD-of-map f (b ∷ bs) zero h = refl
-getD-of-map f (b ∷ bs) (suc i) h = getD-of-map f bs i (omega arith)
-
 label-is : (n : ℕ) (bs : List Block) (i : ℕ) → i < length bs → getD (labels n bs) i 0 ≡ getD (numbers n (paint bs)) (blockAt bs i .code) 0
 unfolding labels
-label-is n bs i h = getD-of-map (λ (b : Block). getD (numbers n (paint bs)) (b .code) 0) bs i h
+label-is n bs i h = getD-map (λ (b : Block). getD (numbers n (paint bs)) (b .code) 0) bs i (record { code = 0; level = 0; colour = 0 }) 0 h
 
 module _ (n : ℕ) (bs : List Block) (covering : cover n 0 bs ≡ 0) where
   pub all-first-pixels : pixels (take (length bs) bs) ≡ 4 ^ n

@@ -11,7 +11,7 @@ use Rattle.quadtree.specs.Blocks.{Block, blocks, pixels}
 use Rattle.quadtree.specs.Number.{cover}
 use Rattle.staircase.specs.Staircase.{done, done-inside}
 use Rattle.staircase.specs.Edges.{eastFrom, northFrom, Border}
-use Rattle.staircase.specs.Rows.{count, doneInRow, doneInColumn, row-end, column-end, one-side-per-row, one-side-per-column}
+use Rattle.staircase.specs.Rows.{countTrue, doneInRow, doneInColumn, row-end, column-end, one-side-per-row, one-side-per-column}
 use Rattle.staircase.specs.NextBlock.{InColumns, InRows, done-north-of-block, done-west-of-block, columns-before-block, rows-before-block, columns-after-block, rows-after-block, other-columns-stay, other-rows-stay}
 use Rattle.components.specs.Holders.{blockAt, holder, HoldsAt, is-holder, held-before, placed, pixels-with, pixel-held, first-pixels-in-image}
 
@@ -28,7 +28,7 @@ lastInRow n bs k y = holder bs (code n (doneInRow n (pixels (take k bs)) y - 1) 
 -- The first five blocks of dial 2 cover the two north rows: the last pixel done in column 1 is (1, 1), in row 1 it is (3, 1).
 last-of-dial-2 : (lastInColumn 2 (blocks (0 ∷ 1 ∷ 2 ∷ 3 ∷ 4 ∷ 8 ∷ 12 ∷ []) (0 ∷ 0 ∷ 0 ∷ 0 ∷ 1 ∷ 1 ∷ 1 ∷ []) (1 ∷ 1 ∷ 1 ∷ 2 ∷ 1 ∷ 1 ∷ 3 ∷ [])) 5 1 ≡ 3)
     × (lastInRow 2 (blocks (0 ∷ 1 ∷ 2 ∷ 3 ∷ 4 ∷ 8 ∷ 12 ∷ []) (0 ∷ 0 ∷ 0 ∷ 0 ∷ 1 ∷ 1 ∷ 1 ∷ []) (1 ∷ 1 ∷ 1 ∷ 2 ∷ 1 ∷ 1 ∷ 3 ∷ [])) 5 1 ≡ 4)
-unfolding lastInColumn lastInRow blocks count done
+unfolding lastInColumn lastInRow blocks countTrue done
 last-of-dial-2 = (refl, refl)
 
 -- x is one of the columns, y one of the rows, of the block k.
@@ -49,7 +49,7 @@ module _ (n : ℕ) (bs : List Block) (covering : cover n 0 bs ≡ 0) where
       let h = pixel-held n bs covering c (omega (arith, first-pixels-in-image n bs covering k)) in
       record { holds = h; done = held-before bs (holder bs c) c k h .0 l }
 
-  -- "the border entry of a column or a row names the block that holds the done pixel beside the border": where the border's
+  -- The border entry of a column or a row names the block that holds the done pixel beside the border: where the border's
   -- side in column x lies below the pixel (x, y), and so in a row.
   pub column-entry-names-done-block : (k x y : ℕ) → x < 2 ^ n → Border (2 ^ n) (done n (pixels (take k bs))) (eastFrom x (suc y))
       → DoneBy bs k (lastInColumn n bs k x) (code n x y)

@@ -10,7 +10,6 @@ pub mod LastBlocks
 pub mod BlockPairs
 pub mod LinkedBlocks
 pub mod BlockNumbers
-pub mod Stretches
 pub mod Spans
 pub mod Walk
 pub mod Walked

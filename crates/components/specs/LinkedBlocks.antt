@@ -1,12 +1,13 @@
 -- The pairs joined by the first k blocks link exactly the blocks whose pixels are connected within the first k blocks.
-use mathlib.Core.Path.{_≡_, refl, sym, ap, ap₂, _∙_, subst}
+use mathlib.Core.Path.{_≡_, sym, ap, ap₂, _∙_, subst}
 use mathlib.Core.Logic.{_⊎_, inl, inr, _↔_}
-use mathlib.Core.List.{List, [], _∷_, List·Memᴰ, List·Memᴰ·not-nil}
+use mathlib.Core.List.{List, List·Memᴰ, List·Memᴰ·not-nil}
 use Prim.Native.Nat.{ℕ, zero, suc, _+_, _-_, _^_, _≤_, _<_}
 use native.Mathlib.Nat.{eq-or-lt-of-le}
 use native.Mathlib.Decide.{decLt}
 use native.Mathlib.Omega.{arith}
 use lib.ListN.{length, take, getD}
+use Rattle.sequences.specs.Maps.{getD-map}
 use Rattle.sequences.specs.Powers.{pow2-pos}
 use Rattle.location.specs.Codes.{code, column, row}
 use Rattle.location.specs.Interleaving.{column-below, row-below, column-of-code, row-of-code, code-of-coordinates, code-below}
@@ -14,7 +15,7 @@ use Rattle.location.specs.Squares.{square-in-image}
 use Rattle.quadtree.specs.Blocks.{Block, pixels, paint}
 use Rattle.quadtree.specs.Number.{cover}
 use Rattle.quadtree.specs.Fields.{colours}
-use Rattle.unions.specs.Pairs.{Pair, pairOf, Linked, same, pair, symmetric, transitive, listed}
+use Rattle.unions.specs.Pairs.{Pair, pairOf, Linked, same, symmetric, transitive, listed, linked-as}
 use Rattle.components.specs.Joined.{Step, north, east, south, west, Beside, Connected, start, on, connected-from, connected-to, connected-through, connected-step, connected-back}
 use Rattle.components.specs.Holders.{blockAt, holder, HoldsAt, one-holder, held-before, held-colour, placed, pixel-held}
 use Rattle.components.specs.Labels.{block-is-connected}
@@ -22,9 +23,7 @@ use Rattle.components.specs.LastBlocks.{lastInColumn, lastInRow, ColumnO
 use Rattle.components.specs.BlockPairs.{northPairs, westPairs, blockPairs, OfSpan, span-pair, span-listed, north-pairs, no-north-pairs, west-pairs, no-west-pairs, no-pairs, north-among, west-among, newest-pairs}
 
 pub colour-at : (bs : List Block) (i : ℕ) → i < length bs → getD (colours bs) i 0 ≡ blockAt bs i .colour
-colour-at [] i h = absurd (omega arith)
-colour-at (b ∷ bs) zero h = refl
-colour-at (b ∷ bs) (suc i) h = colour-at bs i (omega arith)
+colour-at bs i h = getD-map (λ (b : Block). b .colour) bs i (record { code = 0; level = 0; colour = 0 }) 0 h
 
 -- Two of the first k blocks that have neighbouring pixels of one colour.
 pub record Touching (n : ℕ) (bs : List Block) (k : ℕ) (e : Pair) : Type 0 where
@@ -164,21 +163,7 @@ module _ (n : ℕ) (bs : List Block) (covering : cover n 0 bs ≡ 0) where
 
     linked-firsts : {i j : ℕ} → Linked (blockPairs n bs k) i j → (i ≡ j) ⊎ Firsts i j
     unfolding Firsts
-    linked-firsts (same h) = inl h
-    linked-firsts (pair {i} {j} e l a b) =
-        inr (subst (λ (x : ℕ). Firsts x j) (sym a) (subst (λ (x : ℕ). Firsts (e .one) x) (sym b) (touching-connected e (joined-pairs-touch k most e l))))
-    linked-firsts (symmetric {i} {j} l) = back (linked-firsts l)
-      where
-        back : (i ≡ j) ⊎ Firsts i j → (j ≡ i) ⊎ Firsts j i
-        back (inl h) = inl (sym h)
-        back (inr p) = inr (connected-back p)
-    linked-firsts (transitive {i} {j} {k = m} l r) = through (linked-firsts l) (linked-firsts r)
-      where
-        through : (i ≡ j) ⊎ Firsts i j → (j ≡ m) ⊎ Firsts j m → (i ≡ m) ⊎ Firsts i m
-        through (inl h) (inl g) = inl (h ∙ g)
-        through (inl h) (inr q) = inr (subst (λ (x : ℕ). Firsts x m) (sym h) q)
-        through (inr p) (inl g) = inr (subst (λ (x : ℕ). Firsts i x) g p)
-        through (inr p) (inr q) = inr (connected-through p q)
+    linked-firsts = linked-as (blockPairs n bs k) Firsts (λ e l. touching-connected e (joined-pairs-touch k most e l)) (λ i j. connected-back) (λ i j o. connected-through)
 
     pub linked-connected : (i j c d : ℕ) → i < k → j < k → HoldsAt bs i c → HoldsAt bs j d → Linked (blockPairs n bs k) i j → Connected n (paint bs) (pixels (take k bs)) c d
     unfolding Firsts

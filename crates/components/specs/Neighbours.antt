@@ -11,7 +11,7 @@ use borrow.Author.Tests.{eq-eqb, ne-eqb}
 use Rattle.location.specs.Codes.{code, column, row}
 use Rattle.location.specs.Interleaving.{column-below, row-below, column-of-code, row-of-code, code-of-coordinates}
 use Rattle.staircase.specs.Staircase.{code-grows}
-use Rattle.unions.specs.Pairs.{Pair, pairOf, Linked, same, pair, symmetric, transitive, listed}
+use Rattle.unions.specs.Pairs.{Pair, pairOf, Linked, same, symmetric, transitive, listed, linked-as}
 use Rattle.components.specs.Joined.{Step, north, east, south, west, Beside, Connected, start, on, connected-to, connected-through, connected-step, connected-back}
 use Rattle.components.specs.Numbers.{westOf, northOf, pairIfAlike, alikePairs}
 
@@ -88,32 +88,32 @@ rest-listed px c d rest e m = pick (ℕ-discrete (getD px c 0) (getD px d 0))
     pick (no f) = rw (pair-no px c d rest f) m
 
 -- A pair of a pixel with a code below k and its neighbour in the west or in the north, of one colour.
-pub record Side (n : ℕ) (px : List ℕ) (k : ℕ) (e : Pair) : Type 0 where
+pub record AlikePair (n : ℕ) (px : List ℕ) (k : ℕ) (e : Pair) : Type 0 where
   pub below : e .one < k
   pub neighbour : (e .two ≡ westOf n (e .one)) ⊎ (e .two ≡ northOf n (e .one))
   pub alike : getD px (e .one) 0 ≡ getD px (e .two) 0
 
-pair-side : (n : ℕ) (px : List ℕ) (k c d : ℕ) (rest : List Pair) → c < k → (d ≡ westOf n c) ⊎ (d ≡ northOf n c) → ((e : Pair) → List·Memᴰ e rest → Side n px k e)
-    → (e : Pair) → List·Memᴰ e (pairIfAlike px c d rest) → Side n px k e
-pair-side n px k c d rest l w old e m = pick (ℕ-discrete (getD px c 0) (getD px d 0))
+pair-alike : (n : ℕ) (px : List ℕ) (k c d : ℕ) (rest : List Pair) → c < k → (d ≡ westOf n c) ⊎ (d ≡ northOf n c) → ((e : Pair) → List·Memᴰ e rest → AlikePair n px k e)
+    → (e : Pair) → List·Memᴰ e (pairIfAlike px c d rest) → AlikePair n px k e
+pair-alike n px k c d rest l w old e m = pick (ℕ-discrete (getD px c 0) (getD px d 0))
   where
-    head : getD px c 0 ≡ getD px d 0 → (e ≡ pairOf c d) ⊎ List·Memᴰ e rest → Side n px k e
-    head h (inl q) = subst (Side n px k) (sym q) (record { below = l; neighbour = w; alike = h })
+    head : getD px c 0 ≡ getD px d 0 → (e ≡ pairOf c d) ⊎ List·Memᴰ e rest → AlikePair n px k e
+    head h (inl q) = subst (AlikePair n px k) (sym q) (record { below = l; neighbour = w; alike = h })
     head h (inr r) = old e r
 
-    pick : Dec (getD px c 0 ≡ getD px d 0) → Side n px k e
+    pick : Dec (getD px c 0 ≡ getD px d 0) → AlikePair n px k e
     pick (yes h) = head h (List·Memᴰ·cases-cons (rw (pair-yes px c d rest h) at m))
     pick (no f) = old e (rw (pair-no px c d rest f) at m)
 
-side-wider : (n : ℕ) (px : List ℕ) (k : ℕ) (e : Pair) → Side n px k e → Side n px (suc k) e
-side-wider n px k e s = record { below = omega (arith, s .below); neighbour = s .neighbour; alike = s .alike }
+alike-wider : (n : ℕ) (px : List ℕ) (k : ℕ) (e : Pair) → AlikePair n px k e → AlikePair n px (suc k) e
+alike-wider n px k e s = record { below = omega (arith, s .below); neighbour = s .neighbour; alike = s .alike }
 
-pub alike-side : (n : ℕ) (px : List ℕ) (k : ℕ) (e : Pair) → List·Memᴰ e (alikePairs n px k) → Side n px k e
+pub alike-pair : (n : ℕ) (px : List ℕ) (k : ℕ) (e : Pair) → List·Memᴰ e (alikePairs n px k) → AlikePair n px k e
 unfolding alikePairs
-alike-side n px zero e m = absurd (List·Memᴰ·not-nil m)
-alike-side n px (suc c) e m =
-    pair-side n px (suc c) c (westOf n c) (pairIfAlike px c (northOf n c) (alikePairs n px c)) (omega arith) (inl refl)
-    (pair-side n px (suc c) c (northOf n c) (alikePairs n px c) (omega arith) (inr refl) (λ f i. side-wider n px c f (alike-side n px c f i))) e m
+alike-pair n px zero e m = absurd (List·Memᴰ·not-nil m)
+alike-pair n px (suc c) e m =
+    pair-alike n px (suc c) c (westOf n c) (pairIfAlike px c (northOf n c) (alikePairs n px c)) (omega arith) (inl refl)
+    (pair-alike n px (suc c) c (northOf n c) (alikePairs n px c) (omega arith) (inr refl) (λ f i. alike-wider n px c f (alike-pair n px c f i))) e m
 
 older-listed : (n : ℕ) (px : List ℕ) (c : ℕ) (e : Pair) → List·Memᴰ e (alikePairs n px c) → List·Memᴰ e (alikePairs n px (suc c))
 unfolding alikePairs
@@ -147,8 +147,8 @@ north-listed n px (suc k) c l h = pick (ℕ-discrete c k) (north-listed n px k c
 -- ---- what they link
 
 module _ (n : ℕ) (px : List ℕ) (m : ℕ) (image : m ≤ 4 ^ n) where
-  side-connected : (e : Pair) → Side n px m e → Connected n px m (e .one) (e .two)
-  side-connected e s = pick (s .neighbour)
+  pair-connected : (e : Pair) → AlikePair n px m e → Connected n px m (e .one) (e .two)
+  pair-connected e s = pick (s .neighbour)
     where
       inside : e .one < 4 ^ n
       inside = omega (arith, s .below)
@@ -166,23 +166,6 @@ module _ (n : ℕ) (px : List ℕ) (m : ℕ) (image : m ≤ 4 ^ n) where
       pick : (e .two ≡ westOf n (e .one)) ⊎ (e .two ≡ northOf n (e .one)) → Connected n px m (e .one) (e .two)
       pick (inl w) = at-west w (eq-or-lt-of-le (omega arith))
       pick (inr w) = at-north w (eq-or-lt-of-le (omega arith))
-
-  linked-connected : {i j : ℕ} → Linked (alikePairs n px m) i j → (i ≡ j) ⊎ Connected n px m i j
-  linked-connected (same h) = inl h
-  linked-connected (pair {i} {j} e l a b) =
-      inr (subst (λ (x : ℕ). Connected n px m x j) (sym a) (subst (λ (x : ℕ). Connected n px m (e .one) x) (sym b) (side-connected e (alike-side n px m e l))))
-  linked-connected (symmetric {i} {j} l) = back (linked-connected l)
-    where
-      back : (i ≡ j) ⊎ Connected n px m i j → (j ≡ i) ⊎ Connected n px m j i
-      back (inl h) = inl (sym h)
-      back (inr p) = inr (connected-back p)
-  linked-connected (transitive {i} {j} {k} l r) = through (linked-connected l) (linked-connected r)
-    where
-      through : (i ≡ j) ⊎ Connected n px m i j → (j ≡ k) ⊎ Connected n px m j k → (i ≡ k) ⊎ Connected n px m i k
-      through (inl h) (inl g) = inl (h ∙ g)
-      through (inl h) (inr q) = inr (subst (λ (x : ℕ). Connected n px m x k) (sym h) q)
-      through (inr p) (inl g) = inr (subst (λ (x : ℕ). Connected n px m i x) g p)
-      through (inr p) (inr q) = inr (connected-through p q)
 
   -- A step is a pair, from the pixel further east or south.
   step-linked : (c d : ℕ) → c < m → d < m → Step n c d → c < 4 ^ n → d < 4 ^ n → getD px d 0 ≡ getD px c 0 → Linked (alikePairs n px m) c d
@@ -204,7 +187,10 @@ module _ (n : ℕ) (px : List ℕ) (m : ℕ) (image : m ≤ 4 ^ n) where
   connected-linked (on {d} {e} p b l h) = transitive (connected-linked p) (step-linked d e (connected-to p) l (b .step) (b .from) (b .to) h)
 
   pub linked-exactly-when-connected : (c d : ℕ) → c < m → Linked (alikePairs n px m) c d ↔ Connected n px m c d
-  linked-exactly-when-connected c d l = (λ k. pick (linked-connected k), connected-linked)
+  linked-exactly-when-connected c d l = (
+    λ k. pick (linked-as (alikePairs n px m) (Connected n px m) (λ e l. pair-connected e (alike-pair n px m e l)) (λ i j. connected-back) (λ i j o. connected-through) k),
+    connected-linked,
+  )
     where
       pick : (c ≡ d) ⊎ Connected n px m c d → Connected n px m c d
       pick (inl e) = subst (λ (x : ℕ). Connected n px m c x) e (start l)

@@ -7,13 +7,14 @@ use native.Mathlib.Decide.{decLt, ℕ-discrete}
 use native.Mathlib.Omega.{arith}
 use lib.ListN.{length, getD, length-map}
 use lib.Seq.{ext-getD}
+use Rattle.sequences.specs.Maps.{getD-map}
 use Rattle.unions.specs.Pairs.{Pair, Linked}
 use Rattle.unions.specs.Representatives.{rep, rep-links, linked-rep, rep-le, rep-twice, rep-least, linked-to-rep}
-use Rattle.unions.specs.Classes.{length-classes, classes-rep, Inside, inside-each, getD-map}
+use Rattle.unions.specs.Classes.{length-classes, classes-rep, Inside, inside-each}
 use Rattle.unions.specs.Counting.{below, below-most, below-same, numberOf, counted, number-rises, number-of-own, number-less, number-linked, CountsUp, numbers-count-up, only-numbers}
 use Rattle.components.specs.Joined.{Beside, Joined, connected-to, connected-step, connected-colour}
 use Rattle.components.specs.Numbers.{westOf, northOf, alikePairs, representatives, numbers, regions}
-use Rattle.components.specs.Neighbours.{Side, alike-side, west-le, north-le, linked-exactly-when-connected}
+use Rattle.components.specs.Neighbours.{AlikePair, alike-pair, west-le, north-le, linked-exactly-when-connected}
 
 -- The pixel c has the least code of its region.
 pub record LeastCode (n : ℕ) (px : List ℕ) (c : ℕ) : Type 0 where
@@ -48,9 +49,9 @@ module _ (n : ℕ) (px : List ℕ) where
 
   pairs-inside : Inside (4 ^ n) pairs
   unfolding pairs
-  pairs-inside = inside-each (4 ^ n) pairs (λ e m. both e (alike-side n px (4 ^ n) e m))
+  pairs-inside = inside-each (4 ^ n) pairs (λ e m. both e (alike-pair n px (4 ^ n) e m))
     where
-      both : (e : Pair) → Side n px (4 ^ n) e → (e .one < 4 ^ n) × (e .two < 4 ^ n)
+      both : (e : Pair) → AlikePair n px (4 ^ n) e → (e .one < 4 ^ n) × (e .two < 4 ^ n)
       both e s = (s .below, pick (s .neighbour))
         where
           pick : (e .two ≡ westOf n (e .one)) ⊎ (e .two ≡ northOf n (e .one)) → e .two < 4 ^ n
@@ -72,7 +73,7 @@ module _ (n : ℕ) (px : List ℕ) where
   pub number-at : (c : ℕ) → c < 4 ^ n → getD (numbers n px) c 0 ≡ numberOf (rep (alikePairs n px (4 ^ n))) c
   unfolding numbers numberOf pairs
   number-at c l =
-      getD-map _ (representatives n px) c (omega (arith, length-representatives))
+      getD-map _ (representatives n px) c 0 0 (omega (arith, length-representatives))
       ∙ ap (below (λ k. getD (representatives n px) k 0)) (representative-at c l)
       ∙ below-same (λ k. getD (representatives n px) k 0) (rep pairs) (rep pairs c) (λ i h. representative-at i (omega (arith, rep-le pairs c)))
 
@@ -101,13 +102,6 @@ module _ (n : ℕ) (px : List ℕ) where
   neighbours-of-one-number-exactly-when-alike c d b =
       let both = one-number-exactly-when-joined c d (b .from) (b .to) in
       (λ e. connected-colour (both .0 e), λ e. both .1 (connected-step (b .from) (b .to) b e))
-
-  -- The representative is the least code that is joined.
-  pub joined-to-representative : (c : ℕ) → c < 4 ^ n → Joined n px c (getD (representatives n px) c 0)
-  joined-to-representative c l = rw (representative-at c l) (joined-exactly c (rep pairs c) l .0 (linked-to-rep pairs c))
-
-  pub representative-is-least : (c d : ℕ) → Joined n px c d → c < 4 ^ n → getD (representatives n px) c 0 ≤ d
-  representative-is-least c d j l = omega (arith, representative-at c l, rep-least pairs c d (joined-exactly c d l .1 j))
 
   own-least : (c : ℕ) → c < 4 ^ n → rep pairs c ≡ c → LeastCode n px c
   own-least c l e = record { inside = l; least = λ d j. omega (arith, rep-least pairs c d (joined-exactly c d l .1 j)) }

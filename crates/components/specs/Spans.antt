@@ -11,8 +11,8 @@ use lib.ListN.{length, getD}
 use lib.Dec.{eqb}
 use borrow.Author.Tests.{eq-eqb, ne-eqb}
 use Rattle.unions.specs.Pairs.{Pair, pairOf}
-use Rattle.unions.specs.Representatives.{joinAt}
-use Rattle.unions.specs.Roots.{Low, root}
+use Rattle.unions.specs.Representatives.{joinAt, join-pair}
+use Rattle.unions.specs.Roots.{Low, root, join-same}
 use Rattle.unions.specs.Joining.{Forest, joins, joins-none, joins-first}
 use Rattle.components.specs.BlockPairs.{spanPairs, span-yes, span-no, span-none, unlessFirst, pairs-at-edge, pairs-inside}
 
@@ -30,12 +30,35 @@ unfolding joinIfAlike
 unlike-kept ks r b k h = simp (ne-eqb (getD ks b 0) (getD ks k 0) h)
 
 -- Two blocks of one colour are joined, others are left.
-pub alike-forest : (ks : List ℕ) (b k : ℕ) {p₀ p : List ℕ} → getD ks b 0 ≡ getD ks k 0 → Forest p₀ (joinAt (root p₀) (pairOf b k)) p
-    → Forest p₀ (joinIfAlike ks (root p₀) b k) p
-alike-forest ks b k {p₀} h f = record { roots = f .roots ∙ sym (alike-joined ks (root p₀) b k h); low = f .low; long = f .long }
+module _ (ks : List ℕ) (b k : ℕ) where
+  pub alike-forest : {p₀ p : List ℕ} → getD ks b 0 ≡ getD ks k 0 → Forest p₀ (joinAt (root p₀) (pairOf b k)) p → Forest p₀ (joinIfAlike ks (root p₀) b k) p
+  alike-forest {p₀} h f = record { roots = f .roots ∙ sym (alike-joined ks (root p₀) b k h); low = f .low; long = f .long }
 
-pub unlike-forest : (ks : List ℕ) (b k : ℕ) {p : List ℕ} → getD ks b 0 ≢ getD ks k 0 → Low p → Forest p (joinIfAlike ks (root p) b k) p
-unlike-forest ks b k {p} h low = record { roots = sym (unlike-kept ks (root p) b k h); low = low; long = refl }
+  pub unlike-forest : {p : List ℕ} → getD ks b 0 ≢ getD ks k 0 → Low p → Forest p (joinIfAlike ks (root p) b k) p
+  unlike-forest {p} h low = record { roots = sym (unlike-kept ks (root p) b k h); low = low; long = refl }
+
+-- A block joined with itself, or with another for a second time, changes nothing.
+pub alike-self : (ks : List ℕ) (r : ℕ → ℕ) (k : ℕ) → joinIfAlike ks r k k ≡ r
+alike-self ks r k = alike-joined ks r k k refl ∙ join-same r (pairOf k k) refl
+
+alike-twice : (ks : List ℕ) (r : ℕ → ℕ) (b k : ℕ) → joinIfAlike ks (joinIfAlike ks r b k) b k ≡ joinIfAlike ks r b k
+alike-twice ks r b k =
+    elim (ℕ-discrete (getD ks b 0) (getD ks k 0)) [
+      | yes h ↦
+          let e = alike-joined ks r b k h in
+          alike-joined ks (joinIfAlike ks r b k) b k h
+          ∙ ap (λ (f : ℕ → ℕ). joinAt f (pairOf b k)) e
+          ∙ join-same (joinAt r (pairOf b k)) (pairOf b k) (join-pair r (pairOf b k))
+          ∙ sym e
+      | no h ↦ unlike-kept ks (joinIfAlike ks r b k) b k h
+    ]
+
+pub done-after : (ks : List ℕ) (b k : ℕ) {p₀ p : List ℕ} → Forest p₀ (joinIfAlike ks (root p₀) b k) p → joinIfAlike ks (root p) b k ≡ root p
+done-after ks b k {p₀} j = ap (λ (f : ℕ → ℕ). joinIfAlike ks f b k) (j .roots) ∙ alike-twice ks (root p₀) b k ∙ sym (j .roots)
+
+pub done-kept : (ks : List ℕ) {b last : ℕ} (k : ℕ) {p : List ℕ} → Low p → b ≡ last → joinIfAlike ks (root p) last k ≡ root p
+    → Forest p (joinIfAlike ks (root p) b k) p
+done-kept ks k {p} low e done = record { roots = sym (ap (λ (i : ℕ). joinIfAlike ks (root p) i k) e ∙ done); low = low; long = refl }
 
 -- One entry of the span, then the rest.
 joins-entry : (entry : ℕ → ℕ) (ks : List ℕ) (k x s : ℕ) (r : ℕ → ℕ)
@@ -54,7 +77,7 @@ joins-end : (entry : ℕ → ℕ) (ks : List ℕ) (k x s : ℕ) (r : ℕ → ℕ
 joins-end entry ks k x s r h = ap (λ (j : ℕ). joins r (spanPairs entry ks k x j)) h ∙ ap (joins r) (span-none entry ks k x) ∙ joins-none r
 
 -- What the loop over the s entries from `from` on relies on: each of them names a block.
-pub record Neighbours (entries : List ℕ) (from s : ℕ) (ks : List ℕ) (k : ℕ) (p : List ℕ) : Type 0 where
+pub record NamedSpan (entries : List ℕ) (from s : ℕ) (ks : List ℕ) (k : ℕ) (p : List ℕ) : Type 0 where
   pub inside : from + s ≤ length entries
   pub each : (x : ℕ) → from ≤ x → x < from + s → getD entries x 0 < length ks
   pub own : k < length ks
@@ -69,7 +92,7 @@ pub record Spanning (entries : List ℕ) (from s : ℕ) (ks : List ℕ) (k : ℕ
   pub long : length p ≡ length p₀
   pub total : joins (root p) (spanPairs (λ y. getD entries y 0) ks k x (from + s - x)) ≡ joins (root p₀) (spanPairs (λ y. getD entries y 0) ks k from s)
 
-module _ {entries : List ℕ} {from s : ℕ} {ks : List ℕ} {k : ℕ} {p₀ : List ℕ} (ready : Neighbours entries from s ks k p₀) where
+module _ {entries : List ℕ} {from s : ℕ} {ks : List ℕ} {k : ℕ} {p₀ : List ℕ} (ready : NamedSpan entries from s ks k p₀) where
   pub begin : Spanning entries from s ks k p₀ p₀ from
   begin =
       let e : from + s - from ≡ s = omega arith in

@@ -6,6 +6,7 @@ use Prim.Native.Nat.{ℕ, zero, suc, _+_, _-_, _*_, _^_, _≤_, _<_}
 use native.Mathlib.Nat.{eq-or-lt-of-le}
 use native.Mathlib.Omega.{arith}
 use lib.ListN.{length, take, getD}
+use Rattle.sequences.specs.Fill.{fill}
 use Rattle.sequences.specs.Ranges.{range, length-range}
 use Rattle.location.specs.Codes.{code, column, row}
 use Rattle.location.specs.Splitting.{column-wider, row-wider}
@@ -23,8 +24,7 @@ use Rattle.unions.specs.Roots.{Low, root, range-low, range-roots}
 use Rattle.components.specs.Holders.{blockAt, placed}
 use Rattle.components.specs.LastBlocks.{lastInColumn, lastInRow, ColumnOf, RowOf, north-entry, west-entry}
 use Rattle.components.specs.BlockPairs.{spanPairs, unlessFirst, pairs-at-edge, span-same, northPairs, westPairs, blockPairs, no-pairs}
-use Rattle.components.specs.Stretches.{fill}
-use Rattle.components.specs.Spans.{Neighbours}
+use Rattle.components.specs.Spans.{NamedSpan}
 
 -- After the first k blocks: the roots of the parents p are the representatives of the pairs joined so far; the first 2^n entries of
 -- the work list name the last block done in each column, the next 2^n the last block done in each row, wherever one is done; what
@@ -97,8 +97,8 @@ begin n cs ls ks work room = record {
 }
 
 module _ {n : ℕ} {cs ls ks : List ℕ} (passes : Passes n cs ls ks) where
-  pub count : length (blocks cs ls ks) ≡ length cs
-  count = length-blocks cs ls ks (passes .equal-levels) (passes .equal-colours)
+  pub block-count : length (blocks cs ls ks) ≡ length cs
+  block-count = length-blocks cs ls ks (passes .equal-levels) (passes .equal-colours)
 
   pub colour-list : colours (blocks cs ls ks) ≡ ks
   colour-list = colours-of-blocks cs ls ks (passes .equal-levels) (passes .equal-colours)
@@ -107,7 +107,7 @@ module _ {n : ℕ} {cs ls ks : List ℕ} (passes : Passes n cs ls ks) where
 
   module _ (k : ℕ) (less : k < length cs) where
     pub inside : k < length (blocks cs ls ks)
-    inside = omega (arith, count)
+    inside = omega (arith, block-count)
 
     pub code-is : blockAt (blocks cs ls ks) k .code ≡ getD cs k 0
     code-is = ap (λ (b : Block). b .code) (block-at cs ls ks (passes .equal-levels) (passes .equal-colours) k less)
@@ -170,7 +170,7 @@ module _ {n : ℕ} {cs ls ks : List ℕ} (passes : Passes n cs ls ks) where
       west-read y positive r = w .rows y (omega (arith, of-row y r, block-in-image)) (omega (arith, rows-done y r))
 
       -- So they name earlier blocks.
-      pub north-ready : 0 < row n (getD cs k 0) → Neighbours work (column n (getD cs k 0)) (2 ^ getD ls k 0) ks k p
+      pub north-ready : 0 < row n (getD cs k 0) → NamedSpan work (column n (getD cs k 0)) (2 ^ getD ls k 0) ks k p
       north-ready positive = record {
         inside = omega (arith, block-in-image, w .room, w .same-length);
         each = λ x a b. early x (column-of x a b);
@@ -185,7 +185,7 @@ module _ {n : ℕ} {cs ls ks : List ℕ} (passes : Passes n cs ls ks) where
               omega (arith, north-read x positive c, e .done, passes .equal-levels, passes .equal-colours)
 
       pub west-ready : {p₁ : List ℕ} → Low p₁ → length p₁ ≡ length p → 0 < column n (getD cs k 0)
-          → Neighbours work (2 ^ n + row n (getD cs k 0)) (2 ^ getD ls k 0) ks k p₁
+          → NamedSpan work (2 ^ n + row n (getD cs k 0)) (2 ^ getD ls k 0) ks k p₁
       west-ready {p₁} low₁ long₁ positive = record {
         inside = omega (arith, block-in-image, w .room, w .same-length);
         each = λ x a b. early x a b;

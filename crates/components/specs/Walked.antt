@@ -2,13 +2,14 @@
 use mathlib.Core.Path.{_≡_, sym, ap, _∙_}
 use mathlib.Core.Logic.{_↔_}
 use mathlib.Core.List.{List}
-use Prim.Native.Nat.{ℕ, zero, suc, _+_, _*_, _^_, _≤_, _<_}
+use Prim.Native.Nat.{ℕ, suc, _+_, _*_, _^_, _≤_, _<_}
 use native.Mathlib.Numerals.{add-one}
 use native.Mathlib.Nat.{pow-le-pow-left}
 use native.Mathlib.Decide.{decLe, decLt}
 use native.Mathlib.Omega.{arith}
 use lib.ListN.{length, take, getD, replicate, length-replicate}
 use lib.Seq.{ext-getD}
+use Rattle.sequences.specs.Fill.{fill, length-fill, fill-inside, fill-before, fill-beyond, fill-front}
 use Rattle.sequences.specs.Over.{over, length-over, over-inside, over-beyond}
 use Rattle.location.specs.Codes.{column, row}
 use Rattle.quadtree.specs.Blocks.{blocks, pixels, paint}
@@ -18,15 +19,14 @@ use Rattle.unions.specs.Representatives.{rep}
 use Rattle.unions.specs.Counting.{below}
 use Rattle.unions.specs.Roots.{root}
 use Rattle.unions.specs.Joining.{Forest, joins, onto, forest-rep}
-use Rattle.unions.specs.Numbering.{numbersBelow}
+use Rattle.unions.specs.RootNumbers.{numbersBelow}
 use Rattle.components.specs.Joined.{Connected}
 use Rattle.components.specs.Numbers.{regions, labels}
 use Rattle.components.specs.Holders.{HoldsAt}
 use Rattle.components.specs.LastBlocks.{lastInColumn, lastInRow, ColumnOf, RowOf, columns-written, rows-written, other-columns-kept, other-rows-kept}
 use Rattle.components.specs.BlockPairs.{blockPairs, pairs-one-more}
 use Rattle.components.specs.BlockNumbers.{one-root-exactly-when-connected, block-numbers-are-labels, block-count-is-regions}
-use Rattle.components.specs.Stretches.{fill, length-fill, fill-inside, fill-before, fill-beyond, fill-front}
-use Rattle.components.specs.Walk.{Walking, northSpan, westSpan, stored, count, inside, column-of, row-of, of-column, of-row, block-in-image, north-span, west-span}
+use Rattle.components.specs.Walk.{Walking, northSpan, westSpan, stored, block-count, inside, column-of, row-of, of-column, of-row, block-in-image, north-span, west-span}
 
 module _ {n : ℕ} {cs ls ks : List ℕ} (passes : Passes n cs ls ks) {work₀ : List ℕ} {k : ℕ} {work p : List ℕ} (w : Walking n cs ls ks work₀ k work p) where
   module _ (less : k < length cs) where
@@ -141,16 +141,16 @@ module _ {n : ℕ} {cs ls ks : List ℕ} (passes : Passes n cs ls ks) {work₀ :
           beyond = λ i h. ap (λ (l : List ℕ). getD l i 0) store ∙ beyond-after i h;
         })
 
-  -- "root equality after k blocks is exactly Joined within the first k blocks"
+  -- Two pixels have one root after k blocks exactly when they are joined within the first k blocks.
   pub one-root-within-first-blocks : (i j c d : ℕ) → i < k → j < k → HoldsAt (blocks cs ls ks) i c → HoldsAt (blocks cs ls ks) j d
       → (root p i ≡ root p j) ↔ Connected n (paint (blocks cs ls ks)) (pixels (take k (blocks cs ls ks))) c d
   one-root-within-first-blocks =
-      one-root-exactly-when-connected n (blocks cs ls ks) (passes .covering) k p (omega (arith, count passes, w .place)) (w .roots)
+      one-root-exactly-when-connected n (blocks cs ls ks) (passes .covering) k p (omega (arith, block-count passes, w .place)) (w .roots)
 
   -- ---- after all blocks
 
   all-done : length cs ≤ k → k ≡ length (blocks cs ls ks)
-  all-done h = omega (arith, count passes, w .place)
+  all-done h = omega (arith, block-count passes, w .place)
 
   roots-of-all : length cs ≤ k → root p ≡ rep (blockPairs n (blocks cs ls ks) (length (blocks cs ls ks)))
   roots-of-all h = w .roots ∙ ap (λ (i : ℕ). rep (blockPairs n (blocks cs ls ks) i)) (all-done h)
@@ -158,12 +158,12 @@ module _ {n : ℕ} {cs ls ks : List ℕ} (passes : Passes n cs ls ks) {work₀ :
   -- Numbering the places of p by their roots gives the labels, and the count of roots the number of regions.
   pub labels-found : length cs ≤ k → numbersBelow (root p) (length p) ≡ labels n (blocks cs ls ks)
   labels-found h =
-      let long : length p ≡ length (blocks cs ls ks) = omega (arith, count passes, w .long) in
+      let long : length p ≡ length (blocks cs ls ks) = omega (arith, block-count passes, w .long) in
       rw (roots-of-all h, long) (block-numbers-are-labels n (blocks cs ls ks) (passes .covering))
 
   pub regions-found : length cs ≤ k → below (root p) (length p) ≡ regions n (paint (blocks cs ls ks))
   regions-found h =
-      let long : length p ≡ length (blocks cs ls ks) = omega (arith, count passes, w .long) in
+      let long : length p ≡ length (blocks cs ls ks) = omega (arith, block-count passes, w .long) in
       rw (roots-of-all h, long) (block-count-is-regions n (blocks cs ls ks) (passes .covering))
 
   -- Zeros stored over the first 2 · 4^n entries leave nothing of the walk in the work list.

@@ -11,7 +11,8 @@ use Rattle.components.specs.Numbers.{regions, labels}
 use Rattle.sequences.specs.Cases.{and-both}
 use Rattle.grid.specs.Listing.{Cycle, owners, ends, allCorners, pointsAt, cycleCount, cornerCount}
 use Rattle.tracing.specs.Tracing.{outlinesOf}
-use Rattle.paths.specs.ChainForm.{chainForm, cornersOf}
+use Rattle.chains.specs.ChainCode.{chainOf}
+use Rattle.chains.specs.ChainForm.{chainForm, cornersOf}
 use Rattle.printing.specs.Lines.{dataOf}
 
 -- What is said of a block list:
@@ -20,7 +21,7 @@ use Rattle.printing.specs.Lines.{dataOf}
 -- the counts of regions, of cycles and of corners;
 -- the owners, the ends and the corners of the outlines;
 -- of a region, the path data of its cycles joined;
--- of a string, that it is a chain from its start corner, and the cycle whose corners it gives.
+-- of a string, that it is a chain from its start corner, and the cycle whose corners it gives and whose unit steps it lists.
 pub data Saying : Type 0 where
   answer : ℕ → Saying
   labelled : List ℕ → Saying
@@ -51,7 +52,7 @@ Holds d (labelled ls) = labels (d .n) (blocks (d .codes) (d .levels) (d .colours
 Holds d (counted r c k) = (regions (d .n) (pixelsOf d) ≡ r) × (cycleCount (traced d) ≡ c) × (cornerCount (traced d) ≡ k)
 Holds d (outlined os es cs) = (owners (traced d) ≡ os) × (ends (traced d) ≡ es) × (allCorners (traced d) ≡ cs)
 Holds d (path r bytes) = dataOf r (traced d) ≡ bytes
-Holds d (string start bytes k) = (chainForm start bytes ≡ true) × (cornersOf start bytes ≡ pointsAt (traced d) k)
+Holds d (string start bytes k) = (chainForm start bytes ≡ true) × (cornersOf start bytes ≡ pointsAt (traced d) k) × (chainOf (pointsAt (traced d) k) ≡ bytes)
 
 -- All that is said of a dial, and of each dial of a table.
 abbrev pub Each : Dial → List Saying → Type 0
@@ -71,13 +72,13 @@ same (x ∷ xs) [] = false
 same (x ∷ xs) (y ∷ ys) = eqb x y && same xs ys
 
 unfoldable pub holds : Dial → Saying → Bool
-unfolding number labels blocks regions pixelsOf outlinesOf cycleCount cornerCount owners ends allCorners pointsAt dataOf chainForm cornersOf same
+unfolding number labels blocks regions pixelsOf outlinesOf cycleCount cornerCount owners ends allCorners pointsAt dataOf chainForm cornersOf chainOf same
 holds d (answer k) = eqb (number (d .n) (d .codes) (d .levels) (d .colours)) k
 holds d (labelled ls) = same (labels (d .n) (blocks (d .codes) (d .levels) (d .colours))) ls
 holds d (counted r c k) = eqb (regions (d .n) (pixelsOf d)) r && (eqb (cycleCount (traced d)) c && eqb (cornerCount (traced d)) k)
 holds d (outlined os es cs) = same (owners (traced d)) os && (same (ends (traced d)) es && same (allCorners (traced d)) cs)
 holds d (path r bytes) = same (dataOf r (traced d)) bytes
-holds d (string start bytes k) = chainForm start bytes && same (cornersOf start bytes) (pointsAt (traced d) k)
+holds d (string start bytes k) = chainForm start bytes && (same (cornersOf start bytes) (pointsAt (traced d) k) && same (chainOf (pointsAt (traced d) k)) bytes)
 
 unfoldable pub each : Dial → List Saying → Bool
 unfolding holds
@@ -113,8 +114,10 @@ holds-says d (outlined os es cs) h =
     (same-says (owners (traced d)) os (a .0), same-says (ends (traced d)) es (b .0), same-says (allCorners (traced d)) cs (b .1))
 holds-says d (path r bytes) h = same-says (dataOf r (traced d)) bytes h
 holds-says d (string start bytes k) h =
-    let a = and-both (chainForm start bytes) (same (cornersOf start bytes) (pointsAt (traced d) k)) h in
-    (a .0, same-says (cornersOf start bytes) (pointsAt (traced d) k) (a .1))
+    let cs = pointsAt (traced d) k in
+    let a = and-both (chainForm start bytes) (same (cornersOf start bytes) cs && same (chainOf cs) bytes) h in
+    let b = and-both (same (cornersOf start bytes) cs) (same (chainOf cs) bytes) (a .1) in
+    (a .0, same-says (cornersOf start bytes) cs (b .0), same-says (chainOf cs) bytes (b .1))
 
 pub each-says : (d : Dial) (ss : List Saying) → each d ss ≡ true → Each d ss
 unfolding each

@@ -6,9 +6,11 @@ use Rattle.quadtree.specs.Blocks.{blocks}
 use Rattle.components.specs.Numbers.{labels}
 use Rattle.lattice.specs.Parity.{isEven}
 use Rattle.lattice.specs.Directions.{point, xOf, yOf, opposite}
+use Rattle.lattice.specs.Walks.{outline}
 use Rattle.lattice.specs.CycleForm.{inside}
-use Rattle.paths.specs.Decimal.{decimal}
-use Rattle.paths.specs.ChainForm.{digitOf, walk, isDigit, free, allowed, leads, lastByte, firstEast, isAcross, lastAcross, closes}
+use Rattle.decimals.specs.Decimal.{decimal}
+use Rattle.chains.specs.ChainCode.{byteOf, bytesOf}
+use Rattle.chains.specs.ChainForm.{digitOf, walk, isDirection, free, allowed, leads, lastByte, firstEast, isAcross, lastAcross, closes}
 use Rattle.examples.specs.Dials.{answer, labelled, counted, outlined, path, string, Dial, AllHold, allHold, all-say}
 
 -- Path data as bytes, for numbers of one digit, with m for M, h for H, v for V and z for Z: `m 0 1 (h 2 (z []))` is the text M0 1H2Z.
@@ -35,7 +37,7 @@ checked n codes levels colours k = record { n = n; codes = codes; levels = level
 unfoldable pub table : List Dial
 unfolding point m h v z digits checked
 table =
-    -- 1. n=0, one block: M0 0H1V1H0Z; the string 0321 read from (0,0) gives its corners (document 02, m).
+    -- 1. n=0, one block: M0 0H1V1H0Z; the string 0321 read from (0,0) gives its corners, whose unit steps it lists (document 02, m).
     record {
       n = 0;
       codes = 0 ∷ [];
@@ -142,7 +144,7 @@ table =
 -- "Dials 1 to 12, without the printing, are proved about the definitions as one table under one theorem" (document 01,
 -- "Agreement"): each row's sayings hold, as equations.
 pub dials : AllHold table
-unfolding table allHold decimal isEven xOf yOf opposite inside digitOf walk isDigit free allowed leads lastByte firstEast isAcross lastAcross closes
+unfolding table allHold decimal isEven xOf yOf opposite outline inside byteOf bytesOf digitOf walk isDirection free allowed leads lastByte firstEast isAcross lastAcross closes
 dials = all-say table refl
 
 -- A saying read off the table: the region numbers of dial 2, block for block.

@@ -2,12 +2,13 @@
 // Each hands its arguments on and carries the library's promise.
 ghost use mathlib.Core.Path.{_≡_};
 ghost use Rattle.quadtree.specs.Number.{number};
-ghost use Rattle.blocks.specs.Rasters.{FromRaster, ToRaster};
+ghost use Rattle.merging.specs.Promise.{FromRaster};
+ghost use Rattle.painting.specs.Promise.{ToRaster};
 ghost use Rattle.regions.specs.Promise.{Numbering};
 ghost use Rattle.tracing.specs.Tracing.{lent, Tracing};
-ghost use Rattle.paths.specs.Stretch.{Place};
-ghost use Rattle.paths.specs.Svg.{Svg};
-ghost use Rattle.paths.specs.ChainForm.{ChainRead};
+ghost use Rattle.stretches.specs.Stretch.{Place};
+ghost use Rattle.svg.specs.Svg.{Svg};
+ghost use Rattle.chains.specs.ChainForm.{ChainRead};
 ghost use Rattle.pgm.specs.Picture.{Answered};
 
 // The number of an answer, 0 for acceptance, and how many entries were written.
@@ -65,12 +66,15 @@ pub extern "C" fn nettlestair_blocks_from_raster(
     levels: &mut [u8],
     colours: &mut [u8],
 ) -> Written
-    ensures { λ r. ⌜ FromRaster n (now (raster .entry)) (now (codes .entry)) (now (levels .entry)) (now (colours .entry)) (now (codes .exit)) (now (levels .exit)) (now (colours .exit)) (record { number = r .number; count = r .count }) ⌝ }
+    ensures { λ r. ⌜ FromRaster n (now (raster .entry))
+        (now (codes .entry)) (now (levels .entry)) (now (colours .entry))
+        (now (codes .exit)) (now (levels .exit)) (now (colours .exit))
+        (record { number = r .number; count = r .count }) ⌝ }
 {
-    let r = blocks::from_raster(n, raster, codes, levels, colours);
+    let merged = merging::from_raster(n, raster, codes, levels, colours);
     Written {
-        number: r.number,
-        count: r.count,
+        number: merged.number,
+        count: merged.count,
     }
 }
 
@@ -82,12 +86,14 @@ pub extern "C" fn nettlestair_raster_from_blocks(
     colours: &[u8],
     raster: &mut [u8],
 ) -> Written
-    ensures { λ r. ⌜ ToRaster n (now (codes .entry)) (now (levels .entry)) (now (colours .entry)) (now (raster .entry)) (now (raster .exit)) (record { number = r .number; count = r .count }) ⌝ }
+    ensures { λ r. ⌜ ToRaster n (now (codes .entry)) (now (levels .entry)) (now (colours .entry))
+        (now (raster .entry)) (now (raster .exit))
+        (record { number = r .number; count = r .count }) ⌝ }
 {
-    let r = blocks::to_raster(n, codes, levels, colours, raster);
+    let painted = painting::to_raster(n, codes, levels, colours, raster);
     Written {
-        number: r.number,
-        count: r.count,
+        number: painted.number,
+        count: painted.count,
     }
 }
 
@@ -100,12 +106,14 @@ pub extern "C" fn nettlestair_number(
     labels: &mut [u32],
     work: &mut [u32],
 ) -> Numbered
-    ensures { λ r. ⌜ Numbering n (now (codes .entry)) (now (levels .entry)) (now (colours .entry)) (now (labels .entry)) (now (work .entry)) (now (labels .exit)) (now (work .exit)) (record { number = r .number; regions = r .regions }) ⌝ }
+    ensures { λ r. ⌜ Numbering n (now (codes .entry)) (now (levels .entry)) (now (colours .entry))
+        (now (labels .entry)) (now (work .entry)) (now (labels .exit)) (now (work .exit))
+        (record { number = r .number; regions = r .regions }) ⌝ }
 {
-    let r = regions::number(n, codes, levels, colours, labels, work);
+    let numbered = regions::number(n, codes, levels, colours, labels, work);
     Numbered {
-        number: r.number,
-        regions: r.regions,
+        number: numbered.number,
+        regions: numbered.regions,
     }
 }
 
@@ -121,9 +129,12 @@ pub extern "C" fn nettlestair_trace(
     ends: &mut [u32],
     corners: &mut [u32],
 ) -> Traced
-    ensures { λ r. ⌜ Tracing n (now (codes .entry)) (now (levels .entry)) (now (colours .entry)) (lent (now (labels .entry)) (now (work .entry)) (now (owners .entry)) (now (ends .entry)) (now (corners .entry))) (lent (now (labels .exit)) (now (work .exit)) (now (owners .exit)) (now (ends .exit)) (now (corners .exit))) (record { number = r .number; regions = r .regions; cycles = r .cycles; corners = r .corners }) ⌝ }
+    ensures { λ r. ⌜ Tracing n (now (codes .entry)) (now (levels .entry)) (now (colours .entry))
+        (lent (now (labels .entry)) (now (work .entry)) (now (owners .entry)) (now (ends .entry)) (now (corners .entry)))
+        (lent (now (labels .exit)) (now (work .exit)) (now (owners .exit)) (now (ends .exit)) (now (corners .exit)))
+        (record { number = r .number; regions = r .regions; cycles = r .cycles; corners = r .corners }) ⌝ }
 {
-    let r = tracing::trace(
+    let traced = tracing::trace(
         n,
         codes,
         levels,
@@ -135,10 +146,10 @@ pub extern "C" fn nettlestair_trace(
         corners,
     );
     Traced {
-        number: r.number,
-        regions: r.regions,
-        cycles: r.cycles,
-        corners: r.corners,
+        number: traced.number,
+        regions: traced.regions,
+        cycles: traced.cycles,
+        corners: traced.corners,
     }
 }
 
@@ -146,10 +157,10 @@ pub extern "C" fn nettlestair_trace(
 pub extern "C" fn nettlestair_cycle(corners: &[u32], ends: &[u32], count: u32, k: u32) -> Stretch
     ensures { λ r. ⌜ Place (now (corners .entry)) (now (ends .entry)) count k (record { start = r .start; length = r .length }) ⌝ }
 {
-    let r = paths::cycle_place(corners, ends, count, k);
+    let place = stretches::cycle_place(corners, ends, count, k);
     Stretch {
-        start: r.start,
-        length: r.length,
+        start: place.start,
+        length: place.length,
     }
 }
 
@@ -157,10 +168,10 @@ pub extern "C" fn nettlestair_cycle(corners: &[u32], ends: &[u32], count: u32, k
 pub extern "C" fn nettlestair_svg(corners: &[u32], text: &mut [u8]) -> Written
     ensures { λ r. ⌜ Svg (now (corners .entry)) (now (text .entry)) (now (text .exit)) (record { number = r .number; count = r .count }) ⌝ }
 {
-    let r = paths::svg(corners, text);
+    let drawn = svg::svg(corners, text);
     Written {
-        number: r.number,
-        count: r.count,
+        number: drawn.number,
+        count: drawn.count,
     }
 }
 
@@ -168,23 +179,24 @@ pub extern "C" fn nettlestair_svg(corners: &[u32], text: &mut [u8]) -> Written
 pub extern "C" fn nettlestair_read_chain(start: u32, chain: &[u8], corners: &mut [u32]) -> Written
     ensures { λ r. ⌜ ChainRead start (now (chain .entry)) (now (corners .entry)) (now (corners .exit)) (record { number = r .number; count = r .count }) ⌝ }
 {
-    let r = paths::read_chain(start, chain, corners);
+    let read = chains::read_chain(start, chain, corners);
     Written {
-        number: r.number,
-        count: r.count,
+        number: read.number,
+        count: read.count,
     }
 }
 
 #[no_mangle]
 pub extern "C" fn nettlestair_read_pgm(bytes: &[u8]) -> Picture
-    ensures { λ r. ⌜ Answered (now (bytes .entry)) (now (bytes .exit)) (record { number = r .number; n = r .n; maxval = r .maxval; start = r .start; length = r .length }) ⌝ }
+    ensures { λ r. ⌜ Answered (now (bytes .entry)) (now (bytes .exit))
+        (record { number = r .number; n = r .n; maxval = r .maxval; start = r .start; length = r .length }) ⌝ }
 {
-    let r = pgm::read(bytes);
+    let found = pgm::read(bytes);
     Picture {
-        number: r.number,
-        n: r.n,
-        maxval: r.maxval,
-        start: r.start,
-        length: r.length,
+        number: found.number,
+        n: found.n,
+        maxval: found.maxval,
+        start: found.start,
+        length: found.length,
     }
 }

@@ -10,14 +10,14 @@ use Rattle.location.specs.Codes.{code}
 use Rattle.location.specs.Interleaving.{code-grows-in-x}
 use Rattle.lattice.specs.Directions.{xOf, yOf, move, tail, digit, head}
 use Rattle.lattice.specs.Walks.{outline, turns, lastOf, corners}
-use Rattle.lattice.specs.Straight.{Room}
+use Rattle.lattice.specs.Straight.{OnGrid}
 use Rattle.lattice.specs.Corners.{Walk, turns-turn, outline-of-corners}
 use Rattle.orbits.specs.Members.{In}
 use Rattle.orbits.specs.Orbits.{iter, iter-out, walk, orbit, until}
 use Rattle.grid.specs.Map.{regionAt, around}
 use Rattle.grid.specs.Margins.{Margin}
 use Rattle.grid.specs.Steps.{Side, Edge, step}
-use Rattle.grid.specs.Cycles.{cycleFrom, northSide, cycle, codeRight}
+use Rattle.grid.specs.Cycles.{edgeLimit, cycleFrom, northSide, cycle, codeRight}
 use Rattle.grid.specs.Undoing.{fits, no-digit, step-tail, step-edge}
 use Rattle.grid.specs.Returning.{Ring, ring}
 use Rattle.grid.specs.North.{side-small, north-digit, north-code, Eastward, eastward}
@@ -26,7 +26,7 @@ use Rattle.grid.specs.Starting.{StartAt, margin}
 -- The edges of the cycle after its first.
 unfoldable pub others : (ℕ → ℕ → ℕ) → ℕ → List ℕ
 unfolding until step
-others m e = until 526336 (step m) e (step m e)
+others m e = until edgeLimit (step m) e (step m e)
 
 pub cycle-first : (m : ℕ → ℕ → ℕ) (e : ℕ) → cycleFrom m e ≡ e ∷ others m e
 unfolding cycleFrom orbit others
@@ -63,17 +63,17 @@ module _ (m : ℕ → ℕ → ℕ) (margin : Margin m) (r : ℕ) where
       from zero s = absurd (not-suc-le-zero (subst (λ k. 0 < k) (sym s) (g .returns .positive)))
       from (suc k) s = made k s (omega (arith, sym (ap length (cycle-first m e)) ∙ g .long ∙ sym s))
 
-  -- An edge has room for its unit.
-  side-room : (p d : ℕ) → 0 < r → Side m r p d → Room d 1 p
-  unfolding Room around xOf yOf
-  side-room p zero pos s = let f = fits m margin r (suc (p % 512)) (suc (p / 512)) pos (s .on-right) in omega arith
-  side-room p (suc zero) pos s = let f = fits m margin r (suc (p % 512)) (p / 512) pos (s .on-right) in omega arith
-  side-room p (suc (suc zero)) pos s = let f = fits m margin r (p % 512) (p / 512) pos (s .on-right) in omega arith
-  side-room p (suc (suc (suc zero))) pos s = refl
-  side-room p (suc (suc (suc (suc d)))) pos s = no-digit d (s .digit-below)
+  -- An edge stays on the grid.
+  side-on-grid : (p d : ℕ) → 0 < r → Side m r p d → OnGrid d 1 p
+  unfolding OnGrid around xOf yOf
+  side-on-grid p zero pos s = let f = fits m margin r (suc (p % 512)) (suc (p / 512)) pos (s .on-right) in omega arith
+  side-on-grid p (suc zero) pos s = let f = fits m margin r (suc (p % 512)) (p / 512) pos (s .on-right) in omega arith
+  side-on-grid p (suc (suc zero)) pos s = let f = fits m margin r (p % 512) (p / 512) pos (s .on-right) in omega arith
+  side-on-grid p (suc (suc (suc zero))) pos s = refl
+  side-on-grid p (suc (suc (suc (suc d)))) pos s = no-digit d (s .digit-below)
 
-  pub edge-room : (e : ℕ) → Edge m r e → Room (digit e) 1 (tail e)
-  edge-room e h = side-room (tail e) (digit e) (h .a-region) (h .side)
+  edge-on-grid : (e : ℕ) → Edge m r e → OnGrid (digit e) 1 (tail e)
+  edge-on-grid e h = side-on-grid (tail e) (digit e) (h .a-region) (h .side)
 
   -- The steps form a walk.
   pub steps-walk : (k e : ℕ) → Edge m r e → Walk (tail e) (walk (step m) k e) (tail (iter (step m) k e))
@@ -81,7 +81,7 @@ module _ (m : ℕ → ℕ → ℕ) (margin : Margin m) (r : ℕ) where
   steps-walk zero e h = refl
   steps-walk (suc k) e h = (
     refl,
-    edge-room e h,
+    edge-on-grid e h,
     subst₂ (λ q close. Walk q (walk (step m) k (step m e)) close) (step-tail m margin r e h) (ap tail (iter-out (step m) k e))
         (steps-walk k (step m e) (step-edge m margin r e h)),
   )

@@ -11,12 +11,15 @@ use Rattle.grid.specs.Figures.{hook}
 use Rattle.grid.specs.Map.{regionAt, around}
 use Rattle.grid.specs.Steps.{step}
 
+-- Every edge of an image of side 256 is below this number (`edge-bound` of East.antt): 4 times 257 rows of 512 points.
+abbrev pub edgeLimit : ℕ
+edgeLimit = 526336
+
 -- "An outline, or cycle, is the edges the rule runs through from one edge until that edge comes again" (document 01, "Outlines").
--- Every edge of an image of side 256 is below 526,336; the number only bounds the search for the return (`ring` of Returning.antt:
--- the list is the walk up to the first return).
+-- `edgeLimit` only bounds the search for the return (`ring` of Returning.antt: the list is the walk up to the first return).
 unfoldable pub cycleFrom : (ℕ → ℕ → ℕ) → ℕ → List ℕ
 unfolding orbit step
-cycleFrom m e = orbit 526336 (step m) e
+cycleFrom m e = orbit edgeLimit (step m) e
 
 -- The northwest corner of the pixel with the code c, and its north side, walked eastward.
 unfoldable pub cornerOf : ℕ → ℕ → ℕ

@@ -11,6 +11,7 @@ use Rattle.orbits.specs.Pigeon.{Least, None, search-below}
 use Rattle.grid.specs.Map.{around}
 use Rattle.grid.specs.Margins.{Margin}
 use Rattle.grid.specs.Steps.{Side, Edge, step}
+use Rattle.grid.specs.Cycles.{edgeLimit}
 use Rattle.grid.specs.Undoing.{back, fits, no-digit, digit-below-four, arrived, after, step-tail, step-digit, step-edge, back-step}
 
 -- Westward x falls; between two westward edges y falls or grows all the way.
@@ -68,7 +69,7 @@ module _ (m : ℕ → ℕ → ℕ) (margin : Margin m) (r : ℕ) where
   unfolding xOf yOf
   edge-within e h = tail-within m margin r (h .a-region) (tail e) (digit e) (h .side)
 
-  pub edge-bound : (e : ℕ) → Edge m r e → e < 526336
+  pub edge-bound : (e : ℕ) → Edge m r e → e < edgeLimit
   unfolding xOf yOf tail
   edge-bound e h = omega (arith, edge-within e h)
 
@@ -80,7 +81,7 @@ module _ (m : ℕ → ℕ → ℕ) (margin : Margin m) (r : ℕ) where
 
   module _ (e : ℕ) (h : Edge m r e) where
     pub iterate-edge : (i : ℕ) → Edge m r (iter (step m) i e)
-    iterate-edge i = stays (step m) (back m) (Edge m r) 526336 edge-bound (λ x h. step-edge m margin r x h) (λ x h. back-step m margin r x h) i e h
+    iterate-edge i = stays (step m) (back m) (Edge m r) edgeLimit edge-bound (λ x h. step-edge m margin r x h) (λ x h. back-step m margin r x h) i e h
 
     lower : (k : ℕ) → ((i : ℕ) → i ≤ suc k → digit (iter (step m) i e) ≢ 0)
         → weight (tail (iter (step m) (suc k) e)) (digit (iter (step m) (suc k) e)) < weight (tail e) (digit e)

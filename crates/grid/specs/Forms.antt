@@ -14,9 +14,9 @@ use Rattle.lattice.specs.Directions.{xOf, yOf, move, opposite, tail, digit, hea
 use Rattle.sequences.specs.Cases.{both-and, then-both}
 use Rattle.lattice.specs.Parity.{isEven, even-next}
 use Rattle.lattice.specs.Walks.{turns, lastOf, corners}
-use Rattle.lattice.specs.Straight.{far, Room, far-step, far-one, room-more}
+use Rattle.lattice.specs.Straight.{far, OnGrid, far-step, far-one, on-grid-more}
 use Rattle.lattice.specs.Corners.{Walk, turns-on, turns-turn}
-use Rattle.lattice.specs.CycleForm.{inside, allInside, along, byTurns, eastward, steps, cycleForm, Parts, from-parts, along-x-says, along-y-says, says-along-x, says-along-y, says-inside}
+use Rattle.lattice.specs.CycleForm.{inside, allInside, along, byTurns, eastward, steps, cycleForm, FormParts, from-parts, along-x-says, along-y-says, says-along-x, says-along-y, says-inside}
 use Rattle.orbits.specs.Members.{In, in-first, in-later}
 use Rattle.orbits.specs.Orbits.{walk}
 use Rattle.grid.specs.Map.{regionAt}
@@ -34,8 +34,8 @@ use Rattle.grid.specs.Bounds.{corners-fit, cycle-fits}
 use Rattle.grid.specs.Listed.{points-at, start-at, listing-length}
 
 -- k units with the digit d lead along x where d is even, along y where it is odd.
-along-far : (d k p : ℕ) → d < 4 → 0 < k → Room d k p → along (isEven d) p (far d k p) ≡ true
-unfolding isEven far Room xOf yOf
+along-far : (d k p : ℕ) → d < 4 → 0 < k → OnGrid d k p → along (isEven d) p (far d k p) ≡ true
+unfolding isEven far OnGrid xOf yOf
 along-far zero k p h pos r = says-along-x p (p + k) (record { same-row = omega arith; moves = omega arith })
 along-far (suc zero) k p h pos r = says-along-y p (p - 512 * k) (record { same-column = omega arith; moves = omega arith })
 along-far (suc (suc zero)) k p h pos r = says-along-x p (p - k) (record { same-row = omega arith; moves = omega arith })
@@ -68,28 +68,28 @@ other-axis (suc (suc zero)) (suc (suc (suc (suc o)))) h k n b = no-digit o k
 other-axis (suc (suc (suc zero))) (suc (suc (suc (suc o)))) h k n b = no-digit o k
 
 -- No edge of the walk goes straight back; b is the edge before the first.
-unfoldable pub Forward : ℕ → List ℕ → Type 0
-Forward b [] = Unit {0}
-Forward b (e ∷ es) = (digit e ≢ opposite (digit b)) × Forward e es
+unfoldable pub NeverBack : ℕ → List ℕ → Type 0
+NeverBack b [] = Unit {0}
+NeverBack b (e ∷ es) = (digit e ≢ opposite (digit b)) × NeverBack e es
 
 -- On the way, k edges with the digit of b from the corner p are behind.
 abbrev Behind : ℕ → ℕ → ℕ → List ℕ → ℕ → Type 0
-Behind b k p es close = (0 < k) × Room (digit b) k p × Walk (far (digit b) k p) es close × Forward b es
+Behind b k p es close = (0 < k) × OnGrid (digit b) k p × Walk (far (digit b) k p) es close × NeverBack b es
 
 one-more : (b k p e : ℕ) (es : List ℕ) (close : ℕ) → digit b ≡ digit e → Behind b k p (e ∷ es) close → Behind e (suc k) p es close
-unfolding Walk Forward head
+unfolding Walk NeverBack head
 one-more b k p e es close h (pos, r, w, f) =
-    let more : Room (digit b) (suc k) p = room-more (digit b) k p r (subst (λ d. Room d 1 (far (digit b) k p)) (sym h) (subst (Room (digit e) 1) (w .0) (w .1))) in
+    let more : OnGrid (digit b) (suc k) p = on-grid-more (digit b) k p r (subst (λ d. OnGrid d 1 (far (digit b) k p)) (sym h) (subst (OnGrid (digit e) 1) (w .0) (w .1))) in
     let next : move (digit e) (tail e) ≡ far (digit b) (suc k) p = ap₂ move (sym h) (w .0) ∙ far-step (digit b) k p more in
-    (omega arith, subst (λ d. Room d (suc k) p) h more, subst (λ q. Walk q es close) (next ∙ ap (λ d. far d (suc k) p) h) (w .2), f .1)
+    (omega arith, subst (λ d. OnGrid d (suc k) p) h more, subst (λ q. Walk q es close) (next ∙ ap (λ d. far d (suc k) p) h) (w .2), f .1)
 
 another : (b k p e : ℕ) (es : List ℕ) (close : ℕ) → Behind b k p (e ∷ es) close → Behind e 1 (tail e) es close
-unfolding Walk Forward head
+unfolding Walk NeverBack head
 another b k p e es close (pos, r, w, f) = (omega arith, w .1, subst (λ q. Walk q es close) (sym (far-one (digit e) (tail e) (w .1))) (w .2), f .1)
 
 -- The corners go along x and y by turns.
 turns-alternate : (es : List ℕ) (b k p close : ℕ) → Behind b k p es close → isEven (digit (lastOf b es)) ≡ false → byTurns (isEven (digit b)) p (turns (digit b) es) close ≡ true
-unfolding turns byTurns lastOf Walk Forward
+unfolding turns byTurns lastOf Walk NeverBack
 turns-alternate [] b k p close (pos, r, w, f) last =
     both-and (not (isEven (digit b))) (along (isEven (digit b)) p close) (ap not last)
     (subst (λ q. along (isEven (digit b)) p q ≡ true) w (along-far (digit b) k p (digit-below-four b) pos r))
@@ -112,8 +112,8 @@ turns-alternate (e ∷ es) b k p close g last =
         by-turns-step x p q qs first h = rw (h, byTurns)
 
 -- The first step goes east as far as the next corner.
-east-grows : (k p : ℕ) → 0 < k → Room 0 k p → p % 512 < far 0 k p % 512
-unfolding Room far
+east-grows : (k p : ℕ) → 0 < k → OnGrid 0 k p → p % 512 < far 0 k p % 512
+unfolding OnGrid far
 east-grows k p pos r = omega arith
 
 first-east : (es : List ℕ) (b k p close : ℕ) → digit b ≡ 0 → Behind b k p es close → digit (lastOf b es) ≢ 0 → eastward (p ∷ turns (digit b) es) ≡ true
@@ -128,7 +128,7 @@ first-east (e ∷ es) b k p close z g last = pick (ℕ-discrete (digit b) (digit
         ∙ ih (suc k) (sym h ∙ z) (one-more b k p e es close h g)
     pick (no h) ih (pos, r, w, f) =
         ap (λ (t : List ℕ). eastward (p ∷ t)) (turns-turn (digit b) e es h)
-        ∙ lt-ltb (p % 512) (tail e % 512) (subst (λ q. p % 512 < q % 512) (sym (w .0 ∙ ap (λ d. far d k p) z)) (east-grows k p pos (subst (λ d. Room d k p) z r)))
+        ∙ lt-ltb (p % 512) (tail e % 512) (subst (λ q. p % 512 < q % 512) (sym (w .0 ∙ ap (λ d. far d k p) z)) (east-grows k p pos (subst (λ d. OnGrid d k p) z r)))
 
 -- Only an even number of corners is by turns, and only four or more.
 flip-twice : (x : Bool) → not (not x) ≡ x
@@ -166,10 +166,10 @@ turns-inside d (e ∷ es) f = pick (ℕ-discrete d (digit e)) (λ o. turns-insid
     pick (yes h) ih = ap allInside (turns-on d e es h) ∙ ih d
     pick (no h) ih = ap allInside (turns-turn d e es h) ∙ rw (f e (in-first e es), allInside) (ih (digit e))
 
-steps-forward : (m : ℕ → ℕ → ℕ) → Margin m → (r k b : ℕ) → Edge m r b → Forward b (walk (step m) k (step m b))
-unfolding Forward walk
-steps-forward m g r zero b h = tt
-steps-forward m g r (suc k) b h = (no-reverse m g r b h, steps-forward m g r k (step m b) (step-edge m g r b h))
+steps-never-back : (m : ℕ → ℕ → ℕ) → Margin m → (r k b : ℕ) → Edge m r b → NeverBack b (walk (step m) k (step m b))
+unfolding NeverBack walk
+steps-never-back m g r zero b h = tt
+steps-never-back m g r (suc k) b h = (no-reverse m g r b h, steps-never-back m g r k (step m b) (step-edge m g r b h))
 
 odd-digit : (d : ℕ) → d < 4 → d ≢ 0 → 0 ≢ opposite d → isEven d ≡ false
 unfolding isEven opposite
@@ -191,7 +191,7 @@ others-walk m g r e h = from (ring m g r e h .size) refl
     from (suc k) q =
         (k, tails e (others m e) (walk (step m) k (step m e)) (sym (cycle-first m e) ∙ ring m g r e h .walked ∙ ap (λ j. walk (step m) j e) (sym q)))
 
--- "Each listed outline is a cycle form", so 16 never refuses it.
+-- Each listed outline is a cycle form, so 16 never refuses it.
 module _ (n : ℕ) (nums : List ℕ) (small : n ≤ 8) (c : ℕ) (s : StartAt n nums c) where
   abbrev m : ℕ → ℕ → ℕ
   m = regionAt n nums
@@ -216,7 +216,7 @@ module _ (n : ℕ) (nums : List ℕ) (small : n ≤ 8) (c : ℕ) (s : StartAt n 
         omega arith,
         w .1,
         subst (λ q. Walk q es (tail e)) (sym (far-one (digit e) (tail e) (w .1))) (w .2),
-        subst (Forward e) (sym (k .1)) (steps-forward m g r (k .0) e (s .north)),
+        subst (NeverBack e) (sym (k .1)) (steps-never-back m g r (k .0) e (s .north)),
       )
 
   -- The last edge goes along y: neither east, as no start comes after an eastward edge, nor west, as no step turns back.
@@ -250,7 +250,7 @@ module _ (n : ℕ) (nums : List ℕ) (small : n ≤ 8) (c : ℕ) (s : StartAt n 
   pub corners-at-most : length (corners (cycle n nums c)) ≤ 262144
   corners-at-most = let w : 4 ^ n ≤ 4 ^ 8 = pow4-mono small in omega (arith, corners-fit (cycle n nums c), edges-fit)
 
-  pub start-form : Parts (corners (cycle n nums c))
+  pub start-form : FormParts (corners (cycle n nums c))
   unfolding steps isEven
   start-form =
       let cs : corners (cycle n nums c) ≡ tail e ∷ turns (digit e) es = corners-from-start n nums small c s in
@@ -263,7 +263,7 @@ module _ (n : ℕ) (nums : List ℕ) (small : n ≤ 8) (c : ℕ) (s : StartAt n 
         turning = ap steps cs ∙ alternate;
       }
 
--- "Each listed stretch is a cycle form."
+-- Each listed stretch is a cycle form.
 pub listed-is-cycle-form : (n : ℕ) (nums : List ℕ) (regions : ℕ) → n ≤ 8 → (k : ℕ) → k < length (listing n nums regions) → cycleForm (pointsAt (listing n nums regions) k) ≡ true
 listed-is-cycle-form n nums regions small k h =
     ap cycleForm (points-at n nums regions k (omega (arith, listing-length n nums regions)))

@@ -22,15 +22,5 @@ pub mod Bounds
 pub mod Forms
 pub mod Outer
 pub mod Stretches
--- For the loops that list: the map in rows, marks, one cycle walked, the pixels of a region, the listing underway.
-pub mod Ways
+-- For the loops that list: where the cycle through a north side starts.
 pub mod Unseen
-pub mod Rows
-pub mod Marks
-pub mod Walking
-pub mod Unmarked
-pub mod Chains
-pub mod Links
-pub mod Underway
-pub mod Heads
-pub mod Appending

@@ -43,7 +43,7 @@ least-pixel n nums d h =
     )
 
 module _ (n : ℕ) (nums : List ℕ) where
-  -- "no pixel straight north of that one up to the image's edge is in the region"
+  -- No pixel straight north of that one up to the image's edge is in the region.
   pub nothing-north : (c : ℕ) → LeastPixel n nums c → (y : ℕ) → y < row n c → getD nums (code n (column n c) y) 0 ≢ getD nums c 0
   nothing-north c p y h e =
       let less : code n (column n c) y < c =

@@ -10,10 +10,6 @@ use Rattle.grid.specs.Steps.{Edge, step}
 use Rattle.grid.specs.Undoing.{Arrived, Quarter, quarter, move-back, go-right, no-digit, arrived, step-digit}
 
 module _ (m : ℕ → ℕ → ℕ) (margin : Margin m) (r : ℕ) where
-  -- At the head of an edge where of the four pixels around two that lie across are in the region and the other two are not.
-  pub pinch-turns-right : (e : ℕ) → Edge m r e → around m (head e) (leftOf (digit e)) ≡ r → around m (head e) (digit e) ≢ r → digit (step m e) ≡ rightOf (digit e)
-  pinch-turns-right e h a n = step-digit m margin r e h ∙ go-right m r (head e) (digit e) n
-
   -- Two directions, as seen from one of them.
   turns-to : (P : ℕ → Type 0) (d o : ℕ) → d < 4 → o < 4 → d ≢ o → P (rightOf d) → P (leftOf d) → P (opposite d) → P o
   unfolding rightOf leftOf opposite

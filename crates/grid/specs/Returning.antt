@@ -10,7 +10,7 @@ use Rattle.orbits.specs.Members.{In, Distinct}
 use Rattle.orbits.specs.Orbits.{iter, walk, length-walk, walk-at, On, Returns, first-return, distinct, on-list, orbit-walk, on-trans, on-sym, equal-or-apart}
 use Rattle.grid.specs.Margins.{Margin}
 use Rattle.grid.specs.Steps.{Edge, step}
-use Rattle.grid.specs.Cycles.{cycleFrom}
+use Rattle.grid.specs.Cycles.{edgeLimit, cycleFrom}
 use Rattle.grid.specs.Undoing.{back, step-edge, back-step}
 use Rattle.grid.specs.East.{edge-bound, iterate-edge}
 
@@ -25,10 +25,6 @@ pub record Ring (m : ℕ → ℕ → ℕ) (r e : ℕ) : Type 0 where
   pub holds : (a : ℕ) → On (step m) e a ↔ In a (cycleFrom m e)
   pub once : Distinct (cycleFrom m e)
 
--- An edge tells its region.
-pub same-region : (m : ℕ → ℕ → ℕ) (r s e : ℕ) → Edge m r e → Edge m s e → r ≡ s
-same-region m r s e a b = sym (a .side .on-right) ∙ b .side .on-right
-
 module _ (m : ℕ → ℕ → ℕ) (margin : Margin m) (r : ℕ) where
   closed : (e : ℕ) → Edge m r e → Edge m r (step m e)
   closed e h = step-edge m margin r e h
@@ -36,26 +32,26 @@ module _ (m : ℕ → ℕ → ℕ) (margin : Margin m) (r : ℕ) where
   undo : (e : ℕ) → Edge m r e → back m (step m e) ≡ e
   undo e h = back-step m margin r e h
 
-  bound : (e : ℕ) → Edge m r e → e < 526336
+  bound : (e : ℕ) → Edge m r e → e < edgeLimit
   bound e h = edge-bound m margin r e h
 
   -- Every edge comes again.
-  pub edge-returns : (e : ℕ) → Edge m r e → (k : ℕ) × (k ≤ 526336) × Returns (step m) e k
-  edge-returns e h = first-return (step m) (back m) (Edge m r) 526336 bound closed undo e h
+  pub edge-returns : (e : ℕ) → Edge m r e → (k : ℕ) × (k ≤ edgeLimit) × Returns (step m) e k
+  edge-returns e h = first-return (step m) (back m) (Edge m r) edgeLimit bound closed undo e h
 
-  cycle-walk : (e k : ℕ) → Edge m r e → Returns (step m) e k → k ≤ 526336 → cycleFrom m e ≡ walk (step m) k e
+  cycle-walk : (e k : ℕ) → Edge m r e → Returns (step m) e k → k ≤ edgeLimit → cycleFrom m e ≡ walk (step m) k e
   unfolding cycleFrom
-  cycle-walk e k h t l = orbit-walk (step m) (back m) (Edge m r) 526336 bound closed undo e k h t 526336 l
+  cycle-walk e k h t l = orbit-walk (step m) (back m) (Edge m r) edgeLimit bound closed undo e k h t edgeLimit l
 
   pub ring : (e : ℕ) → Edge m r e → Ring m r e
   ring e h = from (edge-returns e h)
     where
-      from : (k : ℕ) × (k ≤ 526336) × Returns (step m) e k → Ring m r e
+      from : (k : ℕ) × (k ≤ edgeLimit) × Returns (step m) e k → Ring m r e
       from (k, l, t) =
           let w : cycleFrom m e ≡ walk (step m) k e = cycle-walk e k h t l in
           let n : length (cycleFrom m e) ≡ k = ap length w ∙ length-walk (step m) k e in
           let at : (i : ℕ) → i < k → getD (cycleFrom m e) i 0 ≡ iter (step m) i e = λ i g. ap (λ (z : List ℕ). getD z i 0) w ∙ walk-at (step m) k e i g in
-          let o : (a : ℕ) → On (step m) e a ↔ ((i : ℕ) × (i < k) × (getD (walk (step m) k e) i 0 ≡ a)) = on-list (step m) (back m) (Edge m r) 526336 bound closed undo e k h t in
+          let o : (a : ℕ) → On (step m) e a ↔ ((i : ℕ) × (i < k) × (getD (walk (step m) k e) i 0 ≡ a)) = on-list (step m) (back m) (Edge m r) edgeLimit bound closed undo e k h t in
           record {
             size = k;
             returns = t;
@@ -68,7 +64,7 @@ module _ (m : ℕ → ℕ → ℕ) (margin : Margin m) (r : ℕ) where
                   (y .0, omega (arith, y .1), ap (λ (z : List ℕ). getD z (y .0) 0) w ∙ y .2),
               λ x. o a .1 (x .0, omega (arith, x .1), sym (ap (λ (z : List ℕ). getD z (x .0) 0) w) ∙ x .2),
             );
-            once = λ i j a b c. distinct (step m) (back m) (Edge m r) 526336 bound closed undo e k h t i j a (omega arith)
+            once = λ i j a b c. distinct (step m) (back m) (Edge m r) edgeLimit bound closed undo e k h t i j a (omega arith)
                 (sym (at i (omega arith)) ∙ c ∙ at j (omega arith));
           }
 
@@ -77,7 +73,7 @@ module _ (m : ℕ → ℕ → ℕ) (margin : Margin m) (r : ℕ) where
   unfolding iter
   before e h = from (edge-returns e h)
     where
-      from : (k : ℕ) × (k ≤ 526336) × Returns (step m) e k → (a : ℕ) × Edge m r a × (step m a ≡ e)
+      from : (k : ℕ) × (k ≤ edgeLimit) × Returns (step m) e k → (a : ℕ) × Edge m r a × (step m a ≡ e)
       from (zero, l, t) = absurd (not-suc-le-zero (t .positive))
       from (suc k, l, t) = (iter (step m) k e, iterate-edge m margin r e h k, t .back)
 
@@ -92,10 +88,10 @@ module _ (m : ℕ → ℕ → ℕ) (margin : Margin m) (r : ℕ) where
 
   -- What is met from an edge meets it.
   pub met-back : (a b : ℕ) → Edge m r a → On (step m) a b → On (step m) b a
-  met-back a b h o = on-sym (step m) (back m) (Edge m r) 526336 bound closed undo a b h o
+  met-back a b h o = on-sym (step m) (back m) (Edge m r) edgeLimit bound closed undo a b h o
 
   pub met-then : (a b c : ℕ) → On (step m) a b → On (step m) b c → On (step m) a c
-  met-then a b c o p = on-trans (step m) (back m) (Edge m r) 526336 bound closed undo a b c o p
+  met-then a b c o p = on-trans (step m) (back m) (Edge m r) edgeLimit bound closed undo a b c o p
 
   -- "whichever of them is taken first": the cycle through any edge of a cycle has the same edges.
   pub same-cycle : (a b : ℕ) → Edge m r a → In b (cycleFrom m a) → (c : ℕ) → In c (cycleFrom m a) ↔ In c (cycleFrom m b)
@@ -111,7 +107,7 @@ module _ (m : ℕ → ℕ → ℕ) (margin : Margin m) (r : ℕ) where
   -- Two cycles of a region are equal or have no edge in common.
   pub cycles-equal-or-apart : (a b : ℕ) → Edge m r a → Edge m r b
       → ((c : ℕ) → In c (cycleFrom m a) ↔ In c (cycleFrom m b)) ⊎ ((c : ℕ) → In c (cycleFrom m a) → In c (cycleFrom m b) → ⊥)
-  cycles-equal-or-apart a b h k = pick (equal-or-apart (step m) (back m) (Edge m r) 526336 bound closed undo a b h k)
+  cycles-equal-or-apart a b h k = pick (equal-or-apart (step m) (back m) (Edge m r) edgeLimit bound closed undo a b h k)
     where
       p : Ring m r a
       p = ring a h
@@ -123,7 +119,3 @@ module _ (m : ℕ → ℕ → ℕ) (margin : Margin m) (r : ℕ) where
           → ((c : ℕ) → In c (cycleFrom m a) ↔ In c (cycleFrom m b)) ⊎ ((c : ℕ) → In c (cycleFrom m a) → In c (cycleFrom m b) → ⊥)
       pick (inl f) = inl (λ c. (λ x. q .holds c .0 (f c .0 (p .holds c .1 x)), λ x. p .holds c .0 (f c .1 (q .holds c .1 x))))
       pick (inr f) = inr (λ c x y. f c (p .holds c .1 x) (q .holds c .1 y))
-
--- Cycles of two regions have no edge in common.
-pub regions-apart : (m : ℕ → ℕ → ℕ) → Margin m → (r s a b c : ℕ) → Edge m r a → Edge m s b → In c (cycleFrom m a) → In c (cycleFrom m b) → r ≡ s
-regions-apart m margin r s a b c h k x y = same-region m r s c (ring m margin r a h .edges c x) (ring m margin s b k .edges c y)

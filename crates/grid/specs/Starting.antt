@@ -16,7 +16,7 @@ use Rattle.orbits.specs.Starts.{Start, a-start}
 use Rattle.grid.specs.Map.{regionAt, around}
 use Rattle.grid.specs.Margins.{Margin, region-margin}
 use Rattle.grid.specs.Steps.{Edge, step}
-use Rattle.grid.specs.Cycles.{cycleFrom, cornerOf, northSide, cycle, codeRight, leastOf, isStart}
+use Rattle.grid.specs.Cycles.{edgeLimit, cycleFrom, cornerOf, northSide, cycle, codeRight, leastOf, isStart}
 use Rattle.grid.specs.Undoing.{back, step-edge, back-step}
 use Rattle.grid.specs.East.{has-east, edge-bound}
 use Rattle.grid.specs.Returning.{Ring, ring, edge-returns, met-back, met-then}
@@ -128,9 +128,9 @@ module _ (n : ℕ) (nums : List ℕ) (small : n ≤ 8) where
             on-cycle = subst (λ x. In e (cycleFrom m x)) (w .north) (q .holds e .0 (met-back m margin r e s h o));
           }
 
-      from : (k : ℕ) × (k ≤ 526336) × Returns (step m) e k → Started r e
+      from : (k : ℕ) × (k ≤ edgeLimit) × Returns (step m) e k → Started r e
       from (k, l, t) =
-          let s = a-start (step m) (back m) (Edge m r) 526336
+          let s = a-start (step m) (back m) (Edge m r) edgeLimit
           (λ x g. edge-bound m margin r x g) (λ x g. step-edge m margin r x g) (λ x g. back-step m margin r x g)
           (λ a. digit a ≡ 0) (λ a. ℕ-discrete (digit a) 0) (codeRight n) (λ a b x y p q i. key-injective r a b x y p q i)
           (λ x j g t. has-east m margin r x g j t) e k h t in

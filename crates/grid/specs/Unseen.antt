@@ -1,19 +1,16 @@
--- Going through the pixels of a region by rising codes, a cycle starts exactly where a north side is an edge and lies on no cycle
--- that started before.
+-- Going through the pixels of a region by rising codes: the cycle through a north side started at this pixel or before, and a start
+-- lies on no cycle that started before.
 use mathlib.Core.Path.{_≡_, refl, sym, subst}
-use mathlib.Core.Logic.{_⊎_, inl, inr, _↔_}
-use mathlib.Core.Bool.{true}
 use mathlib.Core.List.{List}
 use Prim.Native.Nat.{ℕ, suc, _^_, _≤_, _<_}
-use native.Mathlib.Nat.{eq-or-lt-of-le}
 use native.Mathlib.Omega.{arith}
 use lib.ListN.{getD}
 use Rattle.orbits.specs.Members.{In}
 use Rattle.grid.specs.Map.{regionAt}
 use Rattle.grid.specs.Steps.{Edge}
-use Rattle.grid.specs.Cycles.{northSide, cycle, isStart}
+use Rattle.grid.specs.Cycles.{northSide, cycle}
 use Rattle.grid.specs.North.{north-digit, north-code}
-use Rattle.grid.specs.Starting.{StartAt, Started, start-says, says-start, some-start, one-start}
+use Rattle.grid.specs.Starting.{StartAt, Started, some-start, one-start}
 use Rattle.grid.specs.Closing.{cycle-first}
 
 -- The north side of the pixel with the code c lies on the cycle that starts at the pixel with the code d.
@@ -47,27 +44,6 @@ module _ (n : ℕ) (nums : List ℕ) (small : n ≤ 8) where
         not-above = subst (λ x. s .start ≤ x) (north-code n c small h) (s .starts .least (northSide n c) (s .on-cycle) (north-digit n c));
       }
 
-  -- A start lies on no cycle that starts before; an edge that lies on none is a start.
+  -- A start lies on no cycle that starts elsewhere.
   pub start-unseen : (c : ℕ) → StartAt n nums c → (d : ℕ) → OnCycleOf n nums d c → d ≡ c
   start-unseen c s d o = one-start n nums small d c (northSide n c) (o .starts) s (o .stands) (first-in-cycle c)
-
-  pub unseen-starts : (c : ℕ) → c < 4 ^ n → Edge m (suc (getD nums c 0)) (northSide n c)
-      → ((d : ℕ) → d < c → getD nums d 0 ≡ getD nums c 0 → OnCycleOf n nums d c → ⊥) → StartAt n nums c
-  unseen-starts c h e unseen = from (origin c h e)
-    where
-      from : Origin c → StartAt n nums c
-      from o = pick (eq-or-lt-of-le (o .not-above))
-        where
-          pick : (o .start ≡ c) ⊎ (o .start < c) → StartAt n nums c
-          pick (inl q) = subst (StartAt n nums) q (o .on .starts)
-          pick (inr q) = absurd (unseen (o .start) q (o .number) (o .on))
-
-  -- "a cycle is written at a pixel exactly when its north side is an edge and no earlier pixel of the region lies on the same cycle"
-  pub starts-exactly : (c : ℕ) → c < 4 ^ n
-      → (isStart n nums c ≡ true)
-      ↔ (Edge m (suc (getD nums c 0)) (northSide n c) × ((d : ℕ) → d < c → getD nums d 0 ≡ getD nums c 0 → OnCycleOf n nums d c → ⊥))
-  starts-exactly c h = (
-    λ t. let s : StartAt n nums c = start-says n nums small c h t in
-        (s .north, λ d l q o. let e : d ≡ c = start-unseen c s d o in omega arith),
-    λ p. says-start n nums small c (unseen-starts c h (p .0) (p .1)),
-  )

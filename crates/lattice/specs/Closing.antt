@@ -2,25 +2,25 @@
 use mathlib.Core.Path.{_≡_, refl}
 use mathlib.Core.Bool.{Bool, true, not}
 use mathlib.Core.List.{List, [], _∷_, _++_, append-nil}
-use Prim.Native.Nat.{ℕ, zero, suc, _+_, _<_}
+use Prim.Native.Nat.{ℕ, zero, suc, _<_}
 use Rattle.lattice.specs.Directions.{move, head}
 use Rattle.lattice.specs.Walks.{run, straight, walkFrom, outline}
-use Rattle.lattice.specs.Straight.{far, Room, far-zero, far-first, room-first, room-one}
+use Rattle.lattice.specs.Straight.{far, OnGrid, far-zero, far-first, on-grid-first, on-grid-one}
 use Rattle.lattice.specs.Corners.{Walk}
 use Rattle.lattice.specs.CycleForm.{inside, allInside, byTurns, cycleForm}
 use Rattle.lattice.specs.Legs.{heading, distance, Leg, straight-is}
 use Rattle.lattice.specs.Outlines.{tail-edge, digit-edge, first-step, last-step, round}
 
 -- A run, and then the rest of the walk.
-pub walk-run : (d k p : ℕ) (es : List ℕ) (close : ℕ) → d < 4 → Room d k p → Walk (far d k p) es close → Walk p (run d k p ++ es) close
+pub walk-run : (d k p : ℕ) (es : List ℕ) (close : ℕ) → d < 4 → OnGrid d k p → Walk (far d k p) es close → Walk p (run d k p ++ es) close
 unfolding run Walk head
 walk-run d zero p es close h r w = rw far-zero at w
 walk-run d (suc k) p es close h r w =
     let t = tail-edge p d h in
     let g = digit-edge p d h in (
       t,
-      rw (t, g) (room-one d k p r),
-      rw (t, g) (walk-run d k (move d p) es close h (room-first d k p r) (rw (far-first d k p r) w)),
+      rw (t, g) (on-grid-one d k p r),
+      rw (t, g) (walk-run d k (move d p) es close h (on-grid-first d k p r) (rw (far-first d k p r) w)),
     )
 
 walk-leg : (x : Bool) (p q : ℕ) (es : List ℕ) (close : ℕ) → Leg x p q → Walk q es close → Walk p (straight p q ++ es) close

@@ -2,19 +2,19 @@
 use mathlib.Core.Path.{_≡_, sym, ap, ap₂, _∙_, subst, subst₂}
 use mathlib.Core.Logic.{_≢_}
 use mathlib.Core.List.{List, [], _∷_, _++_, append-assoc, append-nil}
-use Prim.Native.Nat.{ℕ, suc, _+_, _<_}
+use Prim.Native.Nat.{ℕ, suc, _<_}
 use native.Mathlib.Decide.{ℕ-discrete}
 use native.Mathlib.Omega.{arith}
 use borrow.Author.Tests.{eq-eqb, ne-eqb}
 use Rattle.lattice.specs.Directions.{move, edge, tail, digit, head}
 use Rattle.lattice.specs.Walks.{run, straight, walkFrom, outline, turns, lastOf, corners}
-use Rattle.lattice.specs.Straight.{far, Room, straight-run, far-step, far-one, room-more, run-snoc}
+use Rattle.lattice.specs.Straight.{far, OnGrid, straight-run, far-step, far-one, on-grid-more, run-snoc}
 
--- The edges stand one after the other from the point q to the point `close`, each with room for its unit.
+-- The edges stand one after the other from the point q to the point `close`, each staying on the grid.
 unfoldable pub Walk : ℕ → List ℕ → ℕ → Type 0
 unfolding tail digit head
 Walk q [] close = q ≡ close
-Walk q (e ∷ es) close = (tail e ≡ q) × Room (digit e) 1 (tail e) × Walk (head e) es close
+Walk q (e ∷ es) close = (tail e ≡ q) × OnGrid (digit e) 1 (tail e) × Walk (head e) es close
 
 pub edge-of : (e : ℕ) → edge (tail e) (digit e) ≡ e
 unfolding edge tail digit
@@ -30,15 +30,15 @@ turns-turn d e es n = rw (ne-eqb d (digit e) n, turns)
 
 -- On the way, k edges with the digit d from the corner p are behind.
 abbrev Goal : List ℕ → Type 0
-Goal es = (d k p close : ℕ) → 0 < k → Room d k p → Walk (far d k p) es close → walkFrom p (turns d es) close ≡ run d k p ++ es
+Goal es = (d k p close : ℕ) → 0 < k → OnGrid d k p → Walk (far d k p) es close → walkFrom p (turns d es) close ≡ run d k p ++ es
 
 -- One more edge with the same digit; the first edge with another.
-module _ (e : ℕ) (es : List ℕ) (ih : Goal es) (d k p close : ℕ) (pos : 0 < k) (r : Room d k p)
-    (here : tail e ≡ far d k p) (room : Room (digit e) 1 (tail e)) (rest : Walk (head e) es close) where
+module _ (e : ℕ) (es : List ℕ) (ih : Goal es) (d k p close : ℕ) (pos : 0 < k) (r : OnGrid d k p)
+    (here : tail e ≡ far d k p) (room : OnGrid (digit e) 1 (tail e)) (rest : Walk (head e) es close) where
   on : d ≡ digit e → walkFrom p (turns d (e ∷ es)) close ≡ run d k p ++ e ∷ es
   unfolding head
   on h =
-      let more : Room d (suc k) p = room-more d k p r (subst₂ (λ x y. Room x 1 y) (sym h) here room) in
+      let more : OnGrid d (suc k) p = on-grid-more d k p r (subst₂ (λ x y. OnGrid x 1 y) (sym h) here room) in
       let next : move (digit e) (tail e) ≡ far d (suc k) p = ap₂ move (sym h) here ∙ far-step d k p more in
       let this : edge (far d k p) d ≡ e = ap₂ edge (sym here) h ∙ edge-of e in
       ap (λ t. walkFrom p t close) (turns-on d e es h)

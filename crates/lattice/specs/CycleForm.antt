@@ -6,7 +6,7 @@ use mathlib.Core.Bool.{Bool, true, false, not, _&&_}
 use mathlib.Core.List.{List, [], _∷_}
 use Prim.Native.Nat.{ℕ, zero, suc, _+_, _%_, _≤_, _<_}
 use native.Mathlib.Nat.{add-zero, zero-add}
-use native.Mathlib.Decide.{ℕ-discrete, decLt}
+use native.Mathlib.Decide.{ℕ-discrete}
 use native.Mathlib.Numerals.{add-one}
 use native.Mathlib.Omega.{arith}
 use lib.ListN.{length, getD, List·getD-eq-default}
@@ -154,7 +154,7 @@ at-steps j p (q ∷ qs) first odd f =
     (λ i l. let g : j + suc i ≡ j + 1 + i = omega arith in rw g at (f (suc i) (omega arith)))))
 
 -- What the test says, each part by itself.
-pub record Parts (cs : List ℕ) : Type 0 where
+pub record FormParts (cs : List ℕ) : Type 0 where
   pub even : length cs % 2 ≡ 0
   pub least : 4 ≤ length cs
   pub most : length cs ≤ 262144
@@ -162,7 +162,7 @@ pub record Parts (cs : List ℕ) : Type 0 where
   pub east : eastward cs ≡ true
   pub turning : steps cs ≡ true
 
-pub parts : (cs : List ℕ) → cycleForm cs ≡ true → Parts cs
+pub parts : (cs : List ℕ) → cycleForm cs ≡ true → FormParts cs
 unfolding cycleForm
 parts cs h =
     let a = and-both (eqb (length cs % 2) 0) (leb 4 (length cs) && (leb (length cs) 262144 && (allInside cs && (eastward cs && steps cs)))) h in
@@ -179,12 +179,12 @@ parts cs h =
       turning = e .1;
     }
 
-pub from-parts : (cs : List ℕ) → Parts cs → cycleForm cs ≡ true
+pub from-parts : (cs : List ℕ) → FormParts cs → cycleForm cs ≡ true
 unfolding cycleForm
 from-parts cs p =
     simp (eq-eqb (length cs % 2) 0 (p .even), le-leb 4 (length cs) (p .least), le-leb (length cs) 262144 (p .most), p .within, p .east, p .turning)
 
-form-of : (cs : List ℕ) → Parts cs → CycleForm cs
+form-of : (cs : List ℕ) → FormParts cs → CycleForm cs
 unfolding eastward steps after
 form-of [] p = absurd (omega (arith, p .least))
 form-of (c ∷ []) p = absurd (omega (arith, p .least))
@@ -203,7 +203,7 @@ form-of (c ∷ d ∷ cs) p =
     step : (i : ℕ) → i < length (c ∷ d ∷ cs) → along (isEven i) (getD (c ∷ d ∷ cs) i 0) (getD (d ∷ cs) i c) ≡ true
     step i l = rw zero-add at (steps-at 0 c (d ∷ cs) c (rw zero-even (p .turning)) i l)
 
-parts-of : (cs : List ℕ) → CycleForm cs → Parts cs
+parts-of : (cs : List ℕ) → CycleForm cs → FormParts cs
 unfolding eastward steps after
 parts-of [] f = absurd (omega (arith, f .at-least-four))
 parts-of (c ∷ []) f = absurd (omega (arith, f .at-least-four))
@@ -239,10 +239,3 @@ after-inner cs i h = rw add-one (same-entry cs (suc i) (getD cs 0 0) 0 (omega ar
 pub after-last : (cs : List ℕ) (i : ℕ) → length cs ≤ i + 1 → after cs i ≡ getD cs 0 0
 unfolding after
 after-last cs i h = List·getD-eq-default cs (getD cs 0 0) (omega arith)
-
-pub after-inside : (cs : List ℕ) (i : ℕ) → allInside cs ≡ true → i < length cs → inside (after cs i) ≡ true
-after-inside cs i h l = pick (decLt (i + 1) (length cs))
-  where
-    pick : Dec (i + 1 < length cs) → inside (after cs i) ≡ true
-    pick (yes m) = rw (after-inner cs i m) (all-inside-at cs h (i + 1) m)
-    pick (no m) = rw (after-last cs i (omega arith)) (all-inside-at cs h 0 (omega arith))

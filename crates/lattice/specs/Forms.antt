@@ -12,7 +12,7 @@ use Rattle.sequences.specs.Cases.{and-both, both-and, then-both}
 use Rattle.lattice.specs.Parity.{isEven, even-yes, even-not, even-next, zero-even}
 use Rattle.lattice.specs.Directions.{xOf, yOf, move, opposite, tail, digit, head}
 use Rattle.lattice.specs.Walks.{corners, turns, lastOf}
-use Rattle.lattice.specs.Straight.{far, Room, far-one, far-step, room-more}
+use Rattle.lattice.specs.Straight.{far, OnGrid, far-one, far-step, on-grid-more}
 use Rattle.lattice.specs.Corners.{Walk, turns-on, turns-turn}
 use Rattle.lattice.specs.CycleForm.{inside, allInside, byTurns, along, steps, eastward, cycleForm, from-parts, along-x-says, along-y-says, says-along-x, says-along-y}
 
@@ -36,8 +36,8 @@ turns-inside (e ∷ es) d p = pick (ℕ-discrete d (digit e)) (turns-inside es (
     pick (no n) r = rw (turns-turn d e es n) (rw (p .1, allInside) r)
 
 -- The point k units on lies along the digit's axis.
-far-along : (d k c : ℕ) → d < 4 → 0 < k → Room d k c → along (isEven d) c (far d k c) ≡ true
-unfolding far Room xOf yOf
+far-along : (d k c : ℕ) → d < 4 → 0 < k → OnGrid d k c → along (isEven d) c (far d k c) ≡ true
+unfolding far OnGrid xOf yOf
 far-along zero k c h pos r = rw (even-yes 0 refl) (says-along-x c (c + k) (record { same-row = omega arith; moves = omega arith }))
 far-along (suc zero) k c h pos r = rw (even-not 1 refl) (says-along-y c (c - 512 * k) (record { same-column = omega arith; moves = omega arith }))
 far-along (suc (suc zero)) k c h pos r = rw (even-yes 2 refl) (says-along-x c (c - k) (record { same-row = omega arith; moves = omega arith }))
@@ -65,15 +65,15 @@ end-last e (f ∷ es) = end-last f es
 
 -- On the way, k units with the digit d from the corner c are behind.
 abbrev Goal : List ℕ → Type 0
-Goal es = (d k c close : ℕ) → d < 4 → 0 < k → Room d k c → Walk (far d k c) es close → Proper d es → endDigit d es % 2 ≡ 1
+Goal es = (d k c close : ℕ) → d < 4 → 0 < k → OnGrid d k c → Walk (far d k c) es close → Proper d es → endDigit d es % 2 ≡ 1
     → byTurns (isEven d) c (turns d es) close ≡ true
 
-module _ (e : ℕ) (es : List ℕ) (ih : Goal es) (d k c close : ℕ) (h : d < 4) (pos : 0 < k) (r : Room d k c) (here : tail e ≡ far d k c) (room : Room (digit e) 1 (tail e))
+module _ (e : ℕ) (es : List ℕ) (ih : Goal es) (d k c close : ℕ) (h : d < 4) (pos : 0 < k) (r : OnGrid d k c) (here : tail e ≡ far d k c) (room : OnGrid (digit e) 1 (tail e))
     (rest : Walk (head e) es close) (away : digit e ≢ opposite d) (proper : Proper (digit e) es) (odd : endDigit (digit e) es % 2 ≡ 1) where
   on : d ≡ digit e → byTurns (isEven d) c (turns d (e ∷ es)) close ≡ true
   unfolding head
   on s =
-      let more : Room d (suc k) c = room-more d k c r (subst₂ (λ x y. Room x 1 y) (sym s) here room) in
+      let more : OnGrid d (suc k) c = on-grid-more d k c r (subst₂ (λ x y. OnGrid x 1 y) (sym s) here room) in
       let next : move (digit e) (tail e) ≡ far d (suc k) c = ap₂ move (sym s) here ∙ far-step d k c more in
       rw (turns-on d e es s) (ih d (suc k) c close h (omega arith) more (rw next at rest) (rw (← s) at proper) (rw (← s) at odd))
 
@@ -97,19 +97,19 @@ walk-turning (e ∷ es) d k c close h pos r w p odd = pick (walk-turning es) (�
     pick ih (no n) = off e es ih d k c close h pos r (w .0) (w .1) (w .2) (p .0) (p .2) odd n
 
 -- The first corner met after k units eastward lies east.
-far-east : (k c : ℕ) → 0 < k → Room 0 k c → xOf c < xOf (far 0 k c)
-unfolding far Room xOf
+far-east : (k c : ℕ) → 0 < k → OnGrid 0 k c → xOf c < xOf (far 0 k c)
+unfolding far OnGrid xOf
 far-east k c pos r = omega arith
 
-first-turn : (es : List ℕ) (k c close : ℕ) → 0 < k → Room 0 k c → Walk (far 0 k c) es close → endDigit 0 es % 2 ≡ 1 → xOf c < xOf (getD (turns 0 es) 0 0)
+first-turn : (es : List ℕ) (k c close : ℕ) → 0 < k → OnGrid 0 k c → Walk (far 0 k c) es close → endDigit 0 es % 2 ≡ 1 → xOf c < xOf (getD (turns 0 es) 0 0)
 unfolding Walk endDigit head
 first-turn [] k c close pos r w odd = absurd (omega arith)
 first-turn (e ∷ es) k c close pos r w odd = pick (first-turn es (suc k) c close (omega arith)) (ℕ-discrete 0 (digit e))
   where
-    pick : (Room 0 (suc k) c → Walk (far 0 (suc k) c) es close → endDigit 0 es % 2 ≡ 1 → xOf c < xOf (getD (turns 0 es) 0 0))
+    pick : (OnGrid 0 (suc k) c → Walk (far 0 (suc k) c) es close → endDigit 0 es % 2 ≡ 1 → xOf c < xOf (getD (turns 0 es) 0 0))
         → Dec (0 ≡ digit e) → xOf c < xOf (getD (turns 0 (e ∷ es)) 0 0)
     pick ih (yes s) =
-        let more : Room 0 (suc k) c = room-more 0 k c r (subst₂ (λ x y. Room x 1 y) (sym s) (w .0) (w .1)) in
+        let more : OnGrid 0 (suc k) c = on-grid-more 0 k c r (subst₂ (λ x y. OnGrid x 1 y) (sym s) (w .0) (w .1)) in
         let next : move (digit e) (tail e) ≡ far 0 (suc k) c = ap₂ move (sym s) (w .0) ∙ far-step 0 k c more in
         rw (turns-on 0 e es s) (ih more (rw next at (w .2)) (rw (← s) at odd))
     pick ih (no m) = rw (turns-turn 0 e es m, w .0) (far-east k c pos r)
@@ -159,7 +159,7 @@ unfolding corners Walk Proper steps head
 corners-form e es w p z o most =
     let c = tail e in
     let cs = turns 0 es in
-    let r : Room 0 1 c = rw z at (w .1) in
+    let r : OnGrid 0 1 c = rw z at (w .1) in
     let on : Walk (far 0 1 c) es c = rw (far-one 0 c r) (rw z at (w .2)) in
     let same : turns (digit (lastOf e es)) (e ∷ es) ≡ c ∷ cs = turns-turn (digit (lastOf e es)) e es (λ q. absurd (omega arith)) ∙ ap (λ d. c ∷ turns d es) z in
     let odd : endDigit 0 es % 2 ≡ 1 = rw z at (ap (λ d. d % 2) (end-last e es) ∙ o) in

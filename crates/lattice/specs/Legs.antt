@@ -9,8 +9,8 @@ use lib.Dec.{eqb, ltb}
 use borrow.Author.Tests.{eq-eqb, ne-eqb, lt-ltb, le-ltb}
 use Rattle.lattice.specs.Directions.{xOf, yOf}
 use Rattle.lattice.specs.Walks.{run, straight}
-use Rattle.lattice.specs.Straight.{far, Room}
-use Rattle.lattice.specs.CycleForm.{inside, along, AlongX, AlongY, inside-says, along-x-says, along-y-says}
+use Rattle.lattice.specs.Straight.{far, OnGrid}
+use Rattle.lattice.specs.CycleForm.{along, AlongX, AlongY, along-x-says, along-y-says}
 
 -- The digit of the straight walk from p to q, and its number of unit edges.
 unfoldable pub heading : ℕ → ℕ → ℕ
@@ -40,22 +40,20 @@ straight-is p q = pick (eqb (yOf p) (yOf q)) refl (ltb (xOf p) (xOf q)) refl (lt
     pick false ea b eb true ec = rw (ea, ec, straight, heading, distance) refl
     pick false ea b eb false ec = rw (ea, ec, straight, heading, distance) refl
 
--- What is known of a step between points inside that goes along x (`x` holds) or along y.
+-- What is known of a step along x (`x` holds) or along y.
 pub record Leg (x : Bool) (p q : ℕ) : Type 0 where
   pub digit-below : heading p q < 4
   pub axis : heading p q % 2 ≡ cond x 0 1
   pub positive : 0 < distance p q
-  pub short : distance p q ≤ 256
-  pub room : Room (heading p q) (distance p q) p
+  pub room : OnGrid (heading p q) (distance p q) p
   pub arrives : far (heading p q) (distance p q) p ≡ q
 
-leg-of : (x : Bool) (p q d k : ℕ) → heading p q ≡ d → distance p q ≡ k → d < 4 → d % 2 ≡ cond x 0 1 → 0 < k → k ≤ 256 → Room d k p → far d k p ≡ q → Leg x p q
-leg-of x p q d k h e below ax pos most r there =
+leg-of : (x : Bool) (p q d k : ℕ) → heading p q ≡ d → distance p q ≡ k → d < 4 → d % 2 ≡ cond x 0 1 → 0 < k → OnGrid d k p → far d k p ≡ q → Leg x p q
+leg-of x p q d k h e below ax pos r there =
     record {
       digit-below = rw h below;
       axis = rw h ax;
       positive = rw e pos;
-      short = rw e most;
       room = rw (h, e) r;
       arrives = rw (h, e) there;
     }
@@ -93,33 +91,33 @@ module _ (p q : ℕ) where
   unfolding distance
   distance-north s l = rw (ne-eqb (yOf p) (yOf q) s, le-ltb (yOf p) (yOf q) l, distance) refl
 
-leg-x : (p q : ℕ) → xOf p ≤ 256 → xOf q ≤ 256 → AlongX p q → Leg true p q
-unfolding far Room xOf yOf
-leg-x p q xp xq a = pick (decLt (xOf p) (xOf q))
+leg-x : (p q : ℕ) → AlongX p q → Leg true p q
+unfolding far OnGrid xOf yOf
+leg-x p q a = pick (decLt (xOf p) (xOf q))
   where
     pick : Dec (xOf p < xOf q) → Leg true p q
     pick (yes l) =
         leg-of true p q 0 (xOf q - xOf p) (heading-east p q (a .same-row) l) (distance-east p q (a .same-row) l)
-        (omega arith) refl (omega arith) (omega arith) (omega arith) (omega (arith, a .same-row))
+        (omega arith) refl (omega arith) (omega arith) (omega (arith, a .same-row))
     pick (no n) =
         leg-of true p q 2 (xOf p - xOf q) (heading-west p q (a .same-row) (omega arith)) (distance-west p q (a .same-row) (omega arith))
-        (omega arith) refl (omega (arith, a .moves)) (omega arith) (omega arith) (omega (arith, a .same-row))
+        (omega arith) refl (omega (arith, a .moves)) (omega arith) (omega (arith, a .same-row))
 
-leg-y : (p q : ℕ) → yOf p ≤ 256 → yOf q ≤ 256 → AlongY p q → Leg false p q
-unfolding far Room xOf yOf
-leg-y p q yp yq a = pick (decLt (yOf p) (yOf q))
+leg-y : (p q : ℕ) → AlongY p q → Leg false p q
+unfolding far OnGrid xOf yOf
+leg-y p q a = pick (decLt (yOf p) (yOf q))
   where
     pick : Dec (yOf p < yOf q) → Leg false p q
     pick (yes l) =
         leg-of false p q 3 (yOf q - yOf p) (heading-south p q (a .moves) l) (distance-south p q (a .moves) l)
-        (omega arith) refl (omega arith) (omega arith) refl (omega (arith, a .same-column))
+        (omega arith) refl (omega arith) refl (omega (arith, a .same-column))
     pick (no n) =
         leg-of false p q 1 (yOf p - yOf q) (heading-north p q (a .moves) (omega arith)) (distance-north p q (a .moves) (omega arith))
-        (omega arith) refl (omega (arith, a .moves)) (omega arith) (omega arith) (omega (arith, a .same-column))
+        (omega arith) refl (omega (arith, a .moves)) (omega arith) (omega (arith, a .same-column))
 
-pub leg : (x : Bool) (p q : ℕ) → inside p ≡ true → inside q ≡ true → along x p q ≡ true → Leg x p q
-leg true p q hp hq h = leg-x p q (inside-says p hp .0) (inside-says q hq .0) (along-x-says p q h)
-leg false p q hp hq h = leg-y p q (inside-says p hp .1) (inside-says q hq .1) (along-y-says p q h)
+pub leg : (x : Bool) (p q : ℕ) → along x p q ≡ true → Leg x p q
+leg true p q h = leg-x p q (along-x-says p q h)
+leg false p q h = leg-y p q (along-y-says p q h)
 
 -- One of the four headings, with its distance.
 module _ (P : ℕ → ℕ → Type 0) (p q : ℕ)

@@ -3,7 +3,7 @@ use mathlib.Core.Path.{_≡_, refl, sym, ap, _∙_}
 use mathlib.Core.Logic.{_≢_}
 use mathlib.Core.Bool.{Bool, true, false, not, cond}
 use mathlib.Core.List.{List, [], _∷_, _++_, append-nil}
-use Prim.Native.Nat.{ℕ, zero, suc, _+_, _%_, _<_}
+use Prim.Native.Nat.{ℕ, zero, suc, _%_, _<_}
 use native.Mathlib.Omega.{arith}
 use lib.ListN.{length, length-append}
 use Rattle.sequences.specs.Cases.{and-both, then-both, not-flips}
@@ -83,14 +83,14 @@ unfolding allInside byTurns
 first-step x p q qs first hp hs h =
     let i = then-both (inside q) (allInside qs) hs in
     let b = then-both (along x p q) (byTurns (not x) q qs first) h in
-    record { step = leg x p q hp (i .0) (b .0); there = i .0; others = i .1; onward = b .1 }
+    record { step = leg x p q (b .0); there = i .0; others = i .1; onward = b .1 }
 
 -- The closing step goes along y.
 pub last-step : (x : Bool) (p first : ℕ) → inside p ≡ true → inside first ≡ true → byTurns x p [] first ≡ true → (x ≡ false) × Leg x p first
 unfolding byTurns
 last-step x p first hp hf h =
     let b = and-both (not x) (along x p first) h in
-    (not-flips x (b .0), leg x p first hp hf (b .1))
+    (not-flips x (b .0), leg x p first (b .1))
 
 pub turns-of-walk : (qs : List ℕ) (x : Bool) (d p first : ℕ) → Axis x d → inside p ≡ true → inside first ≡ true → allInside qs ≡ true → byTurns x p qs first ≡ true
     → turns d (walkFrom p qs first) ≡ p ∷ qs

@@ -16,14 +16,14 @@ far (suc (suc zero)) k p = p - k
 far (suc (suc (suc d))) k p = p + 512 * k
 
 -- k units with the digit d from p leave neither the rows from 0 on nor the columns 0 to 511, by which points are kept.
-unfoldable pub Room : ℕ → ℕ → ℕ → Type 0
-Room zero k p = p % 512 + k < 512
-Room (suc zero) k p = k ≤ p / 512
-Room (suc (suc zero)) k p = k ≤ p % 512
-Room (suc (suc (suc d))) k p = d ≡ 0
+unfoldable pub OnGrid : ℕ → ℕ → ℕ → Type 0
+OnGrid zero k p = p % 512 + k < 512
+OnGrid (suc zero) k p = k ≤ p / 512
+OnGrid (suc (suc zero)) k p = k ≤ p % 512
+OnGrid (suc (suc (suc d))) k p = d ≡ 0
 
-pub straight-run : (d k p : ℕ) → 0 < k → Room d k p → straight p (far d k p) ≡ run d k p
-unfolding straight far Room xOf yOf
+pub straight-run : (d k p : ℕ) → 0 < k → OnGrid d k p → straight p (far d k p) ≡ run d k p
+unfolding straight far OnGrid xOf yOf
 straight-run zero k p pos r =
     let e : p / 512 ≡ (p + k) / 512 = omega arith in
     let n : (p + k) % 512 - p % 512 ≡ k = omega arith in
@@ -49,54 +49,54 @@ far-zero (suc (suc zero)) p = omega arith
 far-zero (suc (suc (suc d))) p = omega arith
 
 -- The first unit taken off.
-pub far-first : (d k p : ℕ) → Room d (suc k) p → far d k (move d p) ≡ far d (suc k) p
-unfolding move far Room
+pub far-first : (d k p : ℕ) → OnGrid d (suc k) p → far d k (move d p) ≡ far d (suc k) p
+unfolding move far OnGrid
 far-first zero k p r = omega arith
 far-first (suc zero) k p r = omega arith
 far-first (suc (suc zero)) k p r = omega arith
 far-first (suc (suc (suc d))) k p r = omega arith
 
-pub room-first : (d k p : ℕ) → Room d (suc k) p → Room d k (move d p)
-unfolding move Room
-room-first zero k p r = omega arith
-room-first (suc zero) k p r = omega arith
-room-first (suc (suc zero)) k p r = omega arith
-room-first (suc (suc (suc d))) k p r = r
+pub on-grid-first : (d k p : ℕ) → OnGrid d (suc k) p → OnGrid d k (move d p)
+unfolding move OnGrid
+on-grid-first zero k p r = omega arith
+on-grid-first (suc zero) k p r = omega arith
+on-grid-first (suc (suc zero)) k p r = omega arith
+on-grid-first (suc (suc (suc d))) k p r = r
 
-pub room-less : (d k p : ℕ) → Room d (suc k) p → Room d k p
-unfolding Room
-room-less zero k p r = omega arith
-room-less (suc zero) k p r = omega arith
-room-less (suc (suc zero)) k p r = omega arith
-room-less (suc (suc (suc d))) k p r = r
+pub on-grid-less : (d k p : ℕ) → OnGrid d (suc k) p → OnGrid d k p
+unfolding OnGrid
+on-grid-less zero k p r = omega arith
+on-grid-less (suc zero) k p r = omega arith
+on-grid-less (suc (suc zero)) k p r = omega arith
+on-grid-less (suc (suc (suc d))) k p r = r
 
 -- One unit more.
-pub room-more : (d k p : ℕ) → Room d k p → Room d 1 (far d k p) → Room d (suc k) p
-unfolding far Room
-room-more zero k p r s = omega arith
-room-more (suc zero) k p r s = omega arith
-room-more (suc (suc zero)) k p r s = omega arith
-room-more (suc (suc (suc d))) k p r s = r
+pub on-grid-more : (d k p : ℕ) → OnGrid d k p → OnGrid d 1 (far d k p) → OnGrid d (suc k) p
+unfolding far OnGrid
+on-grid-more zero k p r s = omega arith
+on-grid-more (suc zero) k p r s = omega arith
+on-grid-more (suc (suc zero)) k p r s = omega arith
+on-grid-more (suc (suc (suc d))) k p r s = r
 
-pub far-step : (d k p : ℕ) → Room d (suc k) p → move d (far d k p) ≡ far d (suc k) p
-unfolding move far Room
+pub far-step : (d k p : ℕ) → OnGrid d (suc k) p → move d (far d k p) ≡ far d (suc k) p
+unfolding move far OnGrid
 far-step zero k p r = omega arith
 far-step (suc zero) k p r = omega arith
 far-step (suc (suc zero)) k p r = omega arith
 far-step (suc (suc (suc d))) k p r = omega arith
 
-pub far-one : (d p : ℕ) → Room d 1 p → far d 1 p ≡ move d p
+pub far-one : (d p : ℕ) → OnGrid d 1 p → far d 1 p ≡ move d p
 far-one d p r = sym (far-step d 0 p r) ∙ ap (move d) (far-zero d p)
 
-pub run-snoc : (d k p : ℕ) → Room d (suc k) p → run d (suc k) p ≡ run d k p ++ (edge (far d k p) d ∷ [])
+pub run-snoc : (d k p : ℕ) → OnGrid d (suc k) p → run d (suc k) p ≡ run d k p ++ (edge (far d k p) d ∷ [])
 unfolding run
 run-snoc d zero p r = ap (λ x. edge x d ∷ []) (sym (far-zero d p))
 run-snoc d (suc k) p r =
-    ap (λ t. edge p d ∷ t) (run-snoc d k (move d p) (room-first d (suc k) p r) ∙ ap (λ x. run d k (move d p) ++ (edge x d ∷ [])) (far-first d k p (room-less d (suc k) p r)))
+    ap (λ t. edge p d ∷ t) (run-snoc d k (move d p) (on-grid-first d (suc k) p r) ∙ ap (λ x. run d k (move d p) ++ (edge x d ∷ [])) (far-first d k p (on-grid-less d (suc k) p r)))
 
-pub room-one : (d k p : ℕ) → Room d (suc k) p → Room d 1 p
-unfolding Room
-room-one zero k p r = omega arith
-room-one (suc zero) k p r = omega arith
-room-one (suc (suc zero)) k p r = omega arith
-room-one (suc (suc (suc d))) k p r = r
+pub on-grid-one : (d k p : ℕ) → OnGrid d (suc k) p → OnGrid d 1 p
+unfolding OnGrid
+on-grid-one zero k p r = omega arith
+on-grid-one (suc zero) k p r = omega arith
+on-grid-one (suc (suc zero)) k p r = omega arith
+on-grid-one (suc (suc (suc d))) k p r = r

@@ -56,10 +56,6 @@ module _ (n : ℕ) (nums : List ℕ) where
   unfolding allStarts
   starts-few = starts-fit n nums (4 ^ n)
 
-  pub first-none : firstCycles n nums 0 ≡ []
-  unfolding firstCycles
-  first-none = refl
-
   pub length-first : (k : ℕ) → k ≤ length (allStarts n nums) → length (firstCycles n nums k) ≡ k
   unfolding firstCycles
   length-first k h = length-map (take k (allStarts n nums)) (cycleAt n nums) ∙ length-take-le k (allStarts n nums) h

@@ -1,15 +1,14 @@
 -- An accepted list with its labels for colours: it paints the region numbers, and its labels count up.
 use mathlib.Core.Path.{_≡_, refl, sym, ap, _∙_}
-use mathlib.Core.Bool.{true, false, not, _||_}
 use mathlib.Core.List.{List, [], _∷_}
-use Prim.Native.Nat.{ℕ, zero, suc, _+_, _%_, _^_, _≤_, _<_}
+use Prim.Native.Nat.{ℕ, zero, suc, _+_, _^_, _≤_, _<_}
 use native.Mathlib.Omega.{arith}
 use lib.ListN.{length, take, getD}
 use lib.Seq.{ext-getD}
-use lib.Dec.{eqb, ltb}
+use Rattle.sequences.specs.Cases.{first}
 use Rattle.sequences.specs.Over.{over, length-over, over-inside}
 use Rattle.quadtree.specs.Blocks.{Block, blocks, pixels, paint}
-use Rattle.quadtree.specs.Number.{cover, number}
+use Rattle.quadtree.specs.Number.{faultOf, cover, number}
 use Rattle.quadtree.specs.Painting.{length-paint}
 use Rattle.quadtree.specs.Accepted.{number-zero}
 use Rattle.staircase.specs.FirstBlocks.{all-pixels}
@@ -70,18 +69,8 @@ cover-as n sum [] ls ks vs e f g = refl
 cover-as n sum (c ∷ cs) [] ks vs e f g = absurd (omega arith)
 cover-as n sum (c ∷ cs) (l ∷ ls) [] vs e f g = absurd (omega arith)
 cover-as n sum (c ∷ cs) (l ∷ ls) (k ∷ ks) [] e f g = absurd (omega arith)
-cover-as n sum (c ∷ cs) (l ∷ ls) (k ∷ ks) (v ∷ vs) e f g = ap asked (cover-as n (sum + 4 ^ l) cs ls ks vs (omega arith) (omega arith) (omega arith))
-  where
-    asked : ℕ → ℕ
-    asked z =
-        elim (ltb n l) [
-          | true ↦ 3
-          | false ↦
-              elim (not (eqb c sum) || eqb sum (4 ^ n)) [
-                | true ↦ 4
-                | false ↦ elim (eqb (c % 4 ^ l) 0) [ true ↦ z | false ↦ 5 ]
-              ]
-        ]
+cover-as n sum (c ∷ cs) (l ∷ ls) (k ∷ ks) (v ∷ vs) e f g =
+    ap (first (faultOf n sum c l)) (cover-as n (sum + 4 ^ l) cs ls ks vs (omega arith) (omega arith) (omega arith))
 
 -- ---- the labels of an accepted list for colours
 

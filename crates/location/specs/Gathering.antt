@@ -46,7 +46,9 @@ module _ (k r a b : ℕ) (ha : a < 2 ^ k) (hb : b < 2 ^ k) where
   -- shifted by k, b comes to stand above the place of a
   shifted-lowest : word / 2 ^ k % 2 ^ (k + k) ≡ b * 2 ^ k
   shifted-lowest =
-      let above : word / 2 ^ k / 2 ^ k % 2 ^ k ≡ b = ap (λ (n : ℕ). n % 2 ^ k) (shr-shr word k k ∙ others) ∙ sym (mod-mod-pow (r * 2 ^ (k + k) + b) k k) ∙ ap (λ (n : ℕ). n % 2 ^ k) (low r (k + k) (fits-field hb)) ∙ mod-eq-of-lt hb in
+      let above : word / 2 ^ k / 2 ^ k % 2 ^ k ≡ b =
+      ap (λ (n : ℕ). n % 2 ^ k) (shr-shr word k k ∙ others) ∙ sym (mod-mod-pow (r * 2 ^ (k + k) + b) k k)
+      ∙ ap (λ (n : ℕ). n % 2 ^ k) (low r (k + k) (fits-field hb)) ∙ mod-eq-of-lt hb in
       let below : word / 2 ^ k % 2 ^ k ≡ 0 = sym (field word k k) ∙ ap (λ (n : ℕ). n / 2 ^ k) lowest ∙ div-eq-of-lt ha in
       mod-pow-add (word / 2 ^ k) k k ∙ ap₂ (λ (p q : ℕ). p * 2 ^ k + q) above below ∙ add-zero (b * 2 ^ k)
 

@@ -30,7 +30,13 @@ pub pixels-above : (l : ℕ) → 32 ≤ l → pixelsOf l ≡ 0
 unfolding pixelsOf
 pixels-above l h = rw (le-ltb l 32 h, pixelsOf)
 
+-- Half the number of the binary zeros that end a code, rounded down; 32 zeros end code 0.
+unfoldable pub alignment : ℕ → ℕ
+unfolding trailingZeros
+alignment c = trailingZeros 32 c / 2
+
 -- "the largest block that may start at a code is told by the binary zeros that end it: level is half their number, rounded
 -- down, and n for code 0" (document 01, "The dial as blocks").
 unfoldable pub topLevel : ℕ → ℕ → ℕ
-topLevel n c = elim (eqb c 0) [ true ↦ n | false ↦ trailingZeros 32 c / 2 ]
+unfolding alignment
+topLevel n c = elim (eqb c 0) [ true ↦ n | false ↦ alignment c ]

@@ -8,3 +8,4 @@ pub mod Parting
 pub mod Squares
 pub mod Levels
 pub mod TopLevels
+pub mod Places

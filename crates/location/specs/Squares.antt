@@ -99,6 +99,9 @@ module _ (k l c : ℕ) (level : l ≤ k) (inside : c < 4 ^ k) (multiple : c % 4 
           let s = quotient-in-stretch (4 ^ l) q (code k x y) (pow4-pos l) same in
           omega (arith, code-apart)
 
+  pub pixel-in-block : (x y : ℕ) → column k c ≤ x → x < column k c + 2 ^ l → row k c ≤ y → y < row k c + 2 ^ l → (c ≤ code k x y) × (code k x y < c + 4 ^ l)
+  pixel-in-block x y a b d e = block-is-square x y (omega (arith, square-in-image)) (omega (arith, square-in-image)) .1 (a, b, d, e)
+
   -- What holds of every code of the block holds of every pixel of the square, and the other way round.
   pub for-block-for-square {ℓ} : (P : ℕ → ℕ → Type ℓ)
       → ((d : ℕ) → c ≤ d → d < c + 4 ^ l → P (column k d) (row k d))
@@ -109,7 +112,7 @@ module _ (k l c : ℕ) (level : l ≤ k) (inside : c < 4 ^ k) (multiple : c % 4 
       to f x y a b d e =
           let hx : x < 2 ^ k = omega (arith, square-in-image) in
           let hy : y < 2 ^ k = omega (arith, square-in-image) in
-          let h = block-is-square x y hx hy .1 (a, b, d, e) in
+          let h = pixel-in-block x y a b d e in
           subst₂ P (column-of-code k x y hx) (row-of-code k x y hy) (f (code k x y) (h .0) (h .1))
 
       from : ((x y : ℕ) → column k c ≤ x → x < column k c + 2 ^ l → row k c ≤ y → y < row k c + 2 ^ l → P x y) → (d : ℕ) → c ≤ d → d < c + 4 ^ l → P (column k d) (row k d)

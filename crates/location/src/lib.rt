@@ -3,7 +3,8 @@ ghost use mathlib.Core.Path.{_≡_};
 ghost use Prim.Native.Nat.{_+_, _*_, _/_, _%_, _^_};
 ghost use Rattle.location.specs.Codes.{code, column, row};
 ghost use Rattle.location.specs.Gathering.{groups};
-ghost use Rattle.location.specs.Levels.{sideOf, pixelsOf, topLevel};
+ghost use Rattle.location.specs.Levels.{sideOf, pixelsOf, alignment, topLevel};
+ghost use Rattle.location.specs.Places.{placeOf};
 
 // The two low binary digits of x, spread: a 0 stands after each. So the 4, 8 and 16 low ones, from two halves.
 fn spread2(x: u32) -> u32
@@ -102,13 +103,28 @@ pub fn pixels(l: u32) -> usize
     if l < 32 { 1usize << (2 * l) } else { 0 }
 }
 
+// The place of the pixel with code c in a raster of side 2^n, row by row; 0 where n is above the 16 digits that a code has of each.
+pub fn place(n: u32, c: u32) -> usize
+    ensures { λ r. ⌜ r ≡ placeOf n c ⌝ }
+{
+    if 16 < n {
+        return 0;
+    }
+    let x = column(c) as usize;
+    let y = row(c) as usize;
+    y * side(n) + x
+}
+
+// The largest level l of which the code c is a multiple of 4^l: half the zeros that end it, rounded down; 16 for code 0.
+pub fn alignment(c: u32) -> u32
+    ensures { λ r. ⌜ r ≡ alignment c ⌝ }
+{
+    u32::trailing_zeros(c) / 2
+}
+
 // The largest level of a block at code c, in an image of side 2^n: "half their number, rounded down, and n for code 0".
 pub fn top_level(n: u32, c: u32) -> u32
     ensures { λ r. ⌜ r ≡ topLevel n c ⌝ }
 {
-    if c == 0 {
-        n
-    } else {
-        u32::trailing_zeros(c) / 2
-    }
+    if c == 0 { n } else { alignment(c) }
 }

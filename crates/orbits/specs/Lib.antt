@@ -3,4 +3,4 @@ pub mod Pigeon
 pub mod Members
 pub mod Orbits
 pub mod Starts
-pub mod Ahead
+pub mod StepsTo

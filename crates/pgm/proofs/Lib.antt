@@ -1,5 +1,3 @@
--- Laws that several proofs share.
-pub mod Places
-pub mod Sequence
-pub mod Digits
+-- Laws of the two loops.
+pub mod Maxval
 pub mod Search

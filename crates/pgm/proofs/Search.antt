@@ -6,6 +6,7 @@ use native.Mathlib.Numerals.{add-one}
 use native.Mathlib.Omega.{arith}
 use Rattle.sequences.specs.Powers.{pow2-mono}
 use Rattle.pgm.specs.Exponent.{exponentFrom, exponent, from-here, from-next}
+use Rattle.pgm.specs.declared.samples.PowerOfTwo.{PowerOfTwo}
 
 pub record Searching (width n power : ℕ) : Type 0 where
   pub small : n ≤ 9
@@ -17,7 +18,7 @@ unfolding exponent
 begin width = record { small = omega arith; doubled = refl; same = refl }
 
 module _ {width n power : ℕ} (s : Searching width n power) where
-  pub found : n < 9 → power ≡ width → n ≡ exponent width
+  pub found : n < 9 → power ≡ width → PowerOfTwo.Power n ≡ exponent width
   found h e =
       let f : 9 - n ≡ suc (8 - n) = omega arith in
       sym (from-here (8 - n) n width (sym (s .doubled) ∙ e)) ∙ ap (λ k. exponentFrom k n width) (sym f) ∙ s .same
@@ -31,7 +32,7 @@ module _ {width n power : ℕ} (s : Searching width n power) where
         same = sym (from-next (9 - (n + 1)) n width (λ e. d (s .doubled ∙ e))) ∙ ap (λ k. exponentFrom k n width) (sym f) ∙ s .same;
       }
 
-  pub none : 9 ≤ n → n ≡ exponent width
+  pub none : 9 ≤ n → PowerOfTwo.Other ≡ exponent width
   unfolding exponentFrom
   none h =
       let f : 9 - n ≡ 0 = omega arith in

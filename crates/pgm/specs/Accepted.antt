@@ -9,15 +9,16 @@ use borrow.Author.Tests.{leb-true, eqb-true}
 use lib.Dec.{leb, eqb}
 use lib.ListN.{length, take, getD}
 use lib.Seq.{take-length}
-use Rattle.pgm.specs.Parser.{Parsed, refused, got, next, demand}
-use Rattle.pgm.specs.Header.{Fields, header}
-use Rattle.pgm.specs.Exponent.{exponent, exponent-power, exponent-of-power}
+use Rattle.headers.specs.Parser.{Parsed, refused, got, next, demand}
+use Rattle.headers.specs.Header.{Fields, header}
+use Rattle.pgm.specs.Exponent.{exponent, sideNumber, sideN, exponent-power, exponent-of-power}
 use Rattle.pgm.specs.Picture.{square, ranged, filled, within, judged, picture, refusal, said, answer, stretch}
 use Rattle.pgm.specs.PictureLaws.{within-more, no-cause, said-refused}
-use Rattle.pgm.specs.File.{File}
-use Rattle.pgm.specs.Layout.{not-got, next-on}
-use Rattle.pgm.specs.FileLaws.{header-is-file, file-is-header, header-10, bad-header-exactly, raster-at-end}
+use Rattle.headers.specs.File.{File}
+use Rattle.headers.specs.Layout.{not-got, next-on}
+use Rattle.headers.specs.FileLaws.{header-is-file, file-is-header, header-10, bad-header-exactly, raster-at-end}
 use Rattle.pgm.specs.declared.Picture.{Picture}
+use Rattle.pgm.specs.declared.samples.PowerOfTwo.{PowerOfTwo}
 
 -- A file of side 2^n, n from 0 to 8, with maxval from 1 to 255, a raster of exactly width times height bytes, and no sample above maxval.
 pub record Accepted (bytes : List ℕ) (n maxval : ℕ) (raster : List ℕ) : Type 0 where
@@ -68,10 +69,10 @@ module _ (bytes raster : List ℕ) (n m : ℕ) (a : Accepted bytes n m raster) w
   pub accepted-answer : _≡_ {A = Picture} (answer bytes) (record { number = 0; n = n; maxval = m; start = length bytes - length raster; length = length raster })
   unfolding said
   accepted-answer =
-      let power : exponent (2 ^ n) ≡ n = exponent-of-power n (a .side) in
+      let power : exponent (2 ^ n) ≡ PowerOfTwo.Power n = exponent-of-power n (a .side) in
       let f : Fields = record { width = 2 ^ n; height = 2 ^ n; maxval = m } in
       file-answer bytes raster f (a .file)
-      ∙ ap (said bytes) (no-cause f raster refl (omega (arith, power, a .side)) (a .low) (a .high) (a .full) (each-within m raster (a .samples)))
+      ∙ ap (said bytes) (no-cause f raster refl power (a .low) (a .high) (a .full) (each-within m raster (a .samples)))
       ∙ rw power refl
 
   pub accepted-stretch : stretch bytes ≡ raster
@@ -94,17 +95,17 @@ made-accepted {bytes} {raster} {n} {w} {h} {m} x power equal side low high full 
     }
 
 passed-accepted : (bytes raster rest : List ℕ) (f g : Fields) → File bytes f raster → judged f raster ≡ got g rest
-    → Accepted bytes (exponent (f .width)) (f .maxval) raster
+    → Accepted bytes (sideN (exponent (f .width))) (f .maxval) raster
 unfolding judged square ranged filled
 passed-accepted bytes raster rest f g x e =
     let (s, e1) = demand-passed 11 (square f) _ e in
     let (r, e2) = demand-passed 12 (ranged f) _ e1 in
     let (l, e3) = demand-passed 13 (filled f raster) _ e2 in
     let (w, e4) = demand-passed 14 (within (f .maxval) raster) _ e3 in
-    let (equal, power) = and-eq-true-iff (eqb (f .width) (f .height)) (leb (exponent (f .width)) 8) .0 s in
+    let (equal, found) = and-eq-true-iff (eqb (f .width) (f .height)) (eqb (sideNumber (exponent (f .width))) 0) .0 s in
     let (low, high) = and-eq-true-iff (leb 1 (f .maxval)) (leb (f .maxval) 255) .0 r in
-    let side : exponent (f .width) ≤ 8 = leb-true _ 8 power in
-    made-accepted x (exponent-power (f .width) side) (eqb-true (f .width) (f .height) equal) side (leb-true 1 _ low) (leb-true _ 255 high)
+    let (power, side) = exponent-power (f .width) (eqb-true _ 0 found) in
+    made-accepted x power (eqb-true (f .width) (f .height) equal) side (leb-true 1 _ low) (leb-true _ 255 high)
     (eqb-true (length raster) (f .width * f .height) l) w
 
 -- A refusal past the header is one of 11 to 14.

@@ -9,7 +9,7 @@ use lib.ListN.{length, take, drop, getD, length-take, length-drop}
 use lib.Seq.{getD-take, getD-drop}
 use Rattle.sequences.specs.Powers.{square-of-side}
 use Rattle.pgm.specs.Picture.{refusal, answer, stretch, Answered, HandedBack}
-use Rattle.pgm.specs.FileLaws.{raster-short}
+use Rattle.headers.specs.FileLaws.{raster-short}
 use Rattle.pgm.specs.Accepted.{Accepted, Passed, Refused, accepted-answer, accepted-stretch, accepted-or-refused}
 use Rattle.pgm.specs.declared.Picture.{Picture}
 

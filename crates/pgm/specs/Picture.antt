@@ -6,15 +6,15 @@ use Prim.Native.Nat.{ℕ, _*_, _-_, _+_}
 use denote.Ref.{RefT, ptr, now}
 use lib.Dec.{leb, eqb}
 use lib.ListN.{length, take, drop}
-use Rattle.pgm.specs.Parser.{Parsed, refused, got, Parser, next, demand, _>>=_}
-use Rattle.pgm.specs.Header.{Fields, header}
-use Rattle.pgm.specs.Exponent.{exponent}
+use Rattle.headers.specs.Parser.{Parsed, refused, got, Parser, next, demand, _>>=_}
+use Rattle.headers.specs.Header.{Fields, header}
+use Rattle.pgm.specs.Exponent.{exponent, sideNumber, sideN}
 use Rattle.pgm.specs.declared.Picture.{Picture}
 
 -- Width and height equal, and a power of two from 1 to 256.
 unfoldable pub square : Fields → Bool
 unfolding exponent
-square f = eqb (f .width) (f .height) && leb (exponent (f .width)) 8
+square f = eqb (f .width) (f .height) && eqb (sideNumber (exponent (f .width))) 0
 
 -- No sample above maxval.
 unfoldable pub within : ℕ → List ℕ → Bool
@@ -49,7 +49,7 @@ refusal k = record { number = k; n = 0; maxval = 0; start = 0; length = 0 }
 unfoldable pub said : List ℕ → Parsed Fields → Picture
 unfolding refusal exponent
 said bytes (refused k) = refusal k
-said bytes (got f raster) = record { number = 0; n = exponent (f .width); maxval = f .maxval; start = length bytes - length raster; length = length raster }
+said bytes (got f raster) = record { number = 0; n = sideN (exponent (f .width)); maxval = f .maxval; start = length bytes - length raster; length = length raster }
 
 unfoldable pub answer : List ℕ → Picture
 unfolding said picture

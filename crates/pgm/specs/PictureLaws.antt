@@ -7,11 +7,12 @@ use native.Mathlib.Omega.{arith}
 use borrow.Author.Tests.{le-leb, lt-leb, eq-eqb, ne-eqb}
 use lib.ListN.{length, drop, length-drop}
 use Rattle.sequences.specs.Powers.{pow2-mono}
-use Rattle.pgm.specs.Parser.{Parsed, refused, got}
-use Rattle.pgm.specs.Header.{Fields}
-use Rattle.pgm.specs.Exponent.{exponent, exponent-power}
+use Rattle.headers.specs.Parser.{Parsed, refused, got}
+use Rattle.headers.specs.Header.{Fields}
+use Rattle.pgm.specs.Exponent.{exponent, sideNumber, sideN, exponent-power}
 use Rattle.pgm.specs.Picture.{square, ranged, filled, within, judged, refusal, said}
 use Rattle.pgm.specs.declared.Picture.{Picture}
+use Rattle.pgm.specs.declared.samples.PowerOfTwo.{PowerOfTwo}
 
 -- A sample at most maxval passes, and one above it fails.
 pub within-more : (m b : ℕ) (raster : List ℕ) → b ≤ m → within m (b ∷ raster) ≡ within m raster
@@ -23,17 +24,17 @@ unfolding within
 within-stop m b raster h = rw (lt-leb b m h, within) refl
 
 module _ (f : Fields) where
-  square-met : f .width ≡ f .height → exponent (f .width) ≤ 8 → square f ≡ true
+  square-met : {n : ℕ} → f .width ≡ f .height → exponent (f .width) ≡ PowerOfTwo.Power n → square f ≡ true
   unfolding square
-  square-met e h = rw (eq-eqb (f .width) (f .height) e, le-leb (exponent (f .width)) 8 h) refl
+  square-met e h = rw (eq-eqb (f .width) (f .height) e, h) refl
 
   square-unequal : (f .width ≡ f .height → ⊥) → square f ≡ false
   unfolding square
   square-unequal d = rw (ne-eqb (f .width) (f .height) d) refl
 
-  square-no-power : f .width ≡ f .height → 8 < exponent (f .width) → square f ≡ false
+  square-no-power : f .width ≡ f .height → exponent (f .width) ≡ PowerOfTwo.Other → square f ≡ false
   unfolding square
-  square-no-power e h = rw (eq-eqb (f .width) (f .height) e, lt-leb (exponent (f .width)) 8 h) refl
+  square-no-power e h = rw (eq-eqb (f .width) (f .height) e, h) refl
 
   ranged-met : 1 ≤ f .maxval → f .maxval ≤ 255 → ranged f ≡ true
   unfolding ranged
@@ -53,11 +54,11 @@ module _ (f : Fields) (raster : List ℕ) where
   unfolding judged
   width-not-height d = rw (square-unequal f d) refl
 
-  pub width-no-power : f .width ≡ f .height → 8 < exponent (f .width) → judged f raster ≡ refused 11
+  pub width-no-power : f .width ≡ f .height → exponent (f .width) ≡ PowerOfTwo.Other → judged f raster ≡ refused 11
   unfolding judged
   width-no-power e h = rw (square-no-power f e h) refl
 
-  module _ (e : f .width ≡ f .height) (h : exponent (f .width) ≤ 8) where
+  module _ {n : ℕ} (e : f .width ≡ f .height) (h : exponent (f .width) ≡ PowerOfTwo.Power n) where
     pub maxval-zero : f .maxval < 1 → judged f raster ≡ refused 12
     unfolding judged
     maxval-zero l = rw (square-met f e h, ranged-below f l) refl
@@ -87,7 +88,7 @@ module _ (bytes : List ℕ) (p : Parsed Fields) where
   unfolding said
   said-refused k e = ap (said bytes) (sym e)
 
-  pub said-got : (f : Fields) (start n : ℕ) → start ≤ length bytes → n ≡ exponent (f .width) → p ≡ got f (drop start bytes)
+  pub said-got : (f : Fields) (start n : ℕ) → start ≤ length bytes → exponent (f .width) ≡ PowerOfTwo.Power n → p ≡ got f (drop start bytes)
       → _≡_ {A = Picture} (record { number = 0; n = n; maxval = f .maxval; start = start; length = length bytes - start }) (said bytes p)
   unfolding said
   said-got f start n h e g =
@@ -95,7 +96,8 @@ module _ (bytes : List ℕ) (p : Parsed Fields) where
       rw (g, e, s, length-drop start bytes) refl
 
 -- A width that passes 11 is at most 256.
-pub width-small : (width : ℕ) → exponent width ≤ 8 → width ≤ 256
+pub width-small : (width : ℕ) {n : ℕ} → exponent width ≡ PowerOfTwo.Power n → width ≤ 256
 width-small width h =
-    let m : 2 ^ exponent width ≤ 2 ^ 8 = pow2-mono {i = exponent width} {j = 8} h in
-    omega (arith, m, exponent-power width h)
+    let (power, small) = exponent-power width (ap sideNumber h) in
+    let m : 2 ^ sideN (exponent width) ≤ 2 ^ 8 = pow2-mono {i = sideN (exponent width)} {j = 8} small in
+    omega (arith, m, power)

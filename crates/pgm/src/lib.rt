@@ -1,11 +1,8 @@
 // The reader of binary PGM (Netpbm, magic P5): the causes 10 to 14, and the raster as a part of the caller's bytes.
-mod header;
-mod number;
 mod samples;
-mod space;
-mod step;
 
-use header::Header;
+use headers::Header;
+use samples::PowerOfTwo;
 ghost use mathlib.Core.Path.{_≡_};
 ghost use Prim.Native.Nat.{_≤_};
 ghost use lib.ListN.{length, drop};
@@ -38,13 +35,12 @@ fn judge(bytes: &[u8], width: u32, height: u32, maxval: u32, start: usize) -> Pi
     requires { ⌜ start ≤ length (now bytes) ⌝ }
     ensures { λ r. ⌜ r ≡ said (now (bytes .entry)) (judged (record { width = width; height = height; maxval = maxval }) (drop start (now (bytes .entry)))) ⌝ }
 {
-    let n = samples::exponent(width);
     if width != height {
         return refusal(11);
     }
-    if 8 < n {
+    let PowerOfTwo::Power(n) = samples::exponent(width) else {
         return refusal(11);
-    }
+    };
     if maxval < 1 {
         return refusal(12);
     }
@@ -72,7 +68,7 @@ fn judge(bytes: &[u8], width: u32, height: u32, maxval: u32, start: usize) -> Pi
 pub fn read(bytes: &[u8]) -> Picture
     ensures { λ r. ⌜ Answered (now (bytes .entry)) (now (bytes .exit)) r ⌝ }
 {
-    match header::parse(bytes) {
+    match headers::parse(bytes) {
         Header::Bad => refusal(10),
         Header::Fields {
             width,

@@ -4,20 +4,26 @@ ghost use lib.ListN.{drop};
 ghost use Rattle.pgm.specs.Exponent.{exponent};
 ghost use Rattle.pgm.specs.Picture.{within};
 
-// The n from 0 to 8 with 2^n = width, and 9 where there is none.
-pub(crate) fn exponent(width: u32) -> u32
+// A side that is a power of two from 1 to 256, by its exponent, or another.
+pub enum PowerOfTwo {
+    Other,
+    Power(u32),
+}
+
+// The n from 0 to 8 with 2^n = width, where there is one.
+pub(crate) fn exponent(width: u32) -> PowerOfTwo
     ensures { λ r. ⌜ r ≡ exponent width ⌝ }
 {
     let mut n: u32 = 0;
     let mut power: u32 = 1;
     while n < 9 {
         if power == width {
-            return n;
+            return PowerOfTwo::Power(n);
         }
         power *= 2;
         n += 1;
     }
-    n
+    PowerOfTwo::Other
 }
 
 // Whether no sample from `start` on is above maxval.

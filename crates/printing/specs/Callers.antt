@@ -5,7 +5,7 @@ use Prim.Native.Nat.{ℕ, _≤_, _<_}
 use native.Mathlib.Omega.{arith}
 use lib.ListN.{length, take, drop, length-append}
 use Rattle.sequences.specs.Over.{over, take-over}
-use Rattle.paths.specs.declared.Written.{Written}
+use Rattle.answers.specs.declared.Written.{Written}
 use Rattle.printing.specs.Printed.{inputNumber, pictureText, wholeText, refusedLine, printed, Printing}
 use Rattle.printing.specs.Printable.{accepted-text, refusal-text, all-printed}
 

@@ -6,8 +6,8 @@ use native.Mathlib.Omega.{arith}
 use lib.ListN.{length, take, drop}
 use Rattle.location.specs.Levels.{pixelsOf, pixels-are-power}
 use Rattle.quadtree.specs.Raster.{inCodeOrder}
-use Rattle.paths.specs.Answers.{Put}
-use Rattle.paths.specs.declared.Written.{Written}
+use Rattle.answers.specs.Put.{Put}
+use Rattle.answers.specs.declared.Written.{Written}
 use Rattle.pgm.specs.Picture.{answer, stretch, Answered}
 use Rattle.pgm.specs.Callers.{accepted, part-inside, part-is-stretch}
 use Rattle.pgm.specs.declared.Picture.{Picture}

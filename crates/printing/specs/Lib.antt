@@ -1,7 +1,7 @@
 -- The text of a picture.
 pub mod Lines
 pub mod Outlines
-pub mod Held
+pub mod LineEnds
 pub mod Writing
 pub mod Picturing
 pub mod Tracings

@@ -11,7 +11,7 @@ use borrow.Author.Tests.{eq-eqb, ne-eqb}
 use Rattle.sequences.specs.Ranges.{range}
 use Rattle.lattice.specs.CycleForm.{cycleForm}
 use Rattle.grid.specs.Listing.{Cycle, allCorners, pointsAt}
-use Rattle.paths.specs.Svg.{pathData, need-suffices}
+use Rattle.svg.specs.Svg.{pathData, need-suffices}
 
 -- "the path data of its cycles joined" (document 01, "Path, chain and picture"): those of the region r.
 unfoldable pub dataOf : ℕ → List Cycle → List ℕ
@@ -159,23 +159,23 @@ each-form [] h = tt
 each-form (c ∷ cs) h = (h 0 (omega arith), each-form cs (λ k l. h (suc k) (omega arith)))
 
 -- What a text of cycles needs: 9 a cycle, 4 a corner, and 1 a line, of which there are not more than cycles.
-unfoldable pub room : List Cycle → ℕ
+unfoldable pub cyclesNeed : List Cycle → ℕ
 unfolding allCorners
-room l = 10 * length l + 4 * length (allCorners l)
+cyclesNeed l = 10 * length l + 4 * length (allCorners l)
 
-pub room-more : (c : Cycle) (cs : List Cycle) → room (c ∷ cs) ≡ 10 + 4 * length (c .points) + room cs
-unfolding room allCorners
-room-more c cs = omega (arith, length-append (c .points) (allCorners cs))
+pub cycles-need-more : (c : Cycle) (cs : List Cycle) → cyclesNeed (c ∷ cs) ≡ 10 + 4 * length (c .points) + cyclesNeed cs
+unfolding cyclesNeed allCorners
+cycles-need-more c cs = omega (arith, length-append (c .points) (allCorners cs))
 
 pub end-length : (b : Bool) → length (lineEnd b) ≤ 1
 unfolding lineEnd
 end-length true = omega arith
 end-length false = omega arith
 
-pub room-suffices : (l : List Cycle) → Forms l → length (byCycles l) ≤ room l
+pub cycles-need-suffices : (l : List Cycle) → Forms l → length (byCycles l) ≤ cyclesNeed l
 unfolding byCycles
-room-suffices [] h = omega arith
-room-suffices (c ∷ cs) h =
+cycles-need-suffices [] h = omega arith
+cycles-need-suffices (c ∷ cs) h =
     let b : Bool = isLast (c .region) cs in
     omega (
       arith,
@@ -183,6 +183,6 @@ room-suffices (c ∷ cs) h =
       length-append (pathData (c .points)) (lineEnd b),
       end-length b,
       need-suffices (c .points) (h .0),
-      room-more c cs,
-      room-suffices cs (h .1),
+      cycles-need-more c cs,
+      cycles-need-suffices cs (h .1),
     )

@@ -15,7 +15,7 @@ use Rattle.grid.specs.Forms.{listed-is-cycle-form}
 use Rattle.components.specs.Numbers.{numbers, regions}
 use Rattle.components.specs.Numbered.{each-number-given}
 use Rattle.links.specs.Image.{imageOutlines}
-use Rattle.printing.specs.Lines.{lines, byCycles, AllOf, Forms, Regionwise, each-form, cycles-give-lines, room, room-suffices}
+use Rattle.printing.specs.Lines.{lines, byCycles, AllOf, Forms, Regionwise, each-form, cycles-give-lines, cyclesNeed, cycles-need-suffices}
 
 -- "one line a region": the whole text of the image.
 unfoldable pub imageText : ℕ → List ℕ → List ℕ
@@ -69,9 +69,9 @@ module _ (n : ℕ) (px : List ℕ) (small : n ≤ 8) where
   outline-forms = each-form (listing n (numbers n px) (regions n px)) (listed-is-cycle-form n (numbers n px) (regions n px) small)
 
   -- 9 a cycle, 4 a corner and 1 a line: at most 4^n cycles, 4 times 4^n corners and not more lines than cycles.
-  pub outlines-room : room (imageOutlines n px) ≤ 26 * 4 ^ n
-  unfolding room cycleCount cornerCount
-  outlines-room = omega (arith, cycles-fit n (numbers n px) (regions n px), corner-count-fits n (numbers n px) (regions n px) small)
+  pub outlines-need : cyclesNeed (imageOutlines n px) ≤ 26 * 4 ^ n
+  unfolding cyclesNeed cycleCount cornerCount
+  outlines-need = omega (arith, cycles-fit n (numbers n px) (regions n px), corner-count-fits n (numbers n px) (regions n px) small)
 
   pub image-text-fits : length (imageText n px) ≤ 26 * 4 ^ n
-  image-text-fits = omega (arith, ap length lines-by-cycles, room-suffices (imageOutlines n px) outline-forms, outlines-room)
+  image-text-fits = omega (arith, ap length lines-by-cycles, cycles-need-suffices (imageOutlines n px) outline-forms, outlines-need)

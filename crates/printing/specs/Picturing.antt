@@ -13,16 +13,16 @@ use Rattle.quadtree.specs.Painting.{paint-quadtree}
 use Rattle.quadtree.specs.Quadtree.{quadtree}
 use Rattle.quadtree.specs.Raster.{inCodeOrder}
 use Rattle.quadtree.specs.Orders.{length-in-code-order}
-use Rattle.blocks.specs.Rasters.{blocksWritten, FromRaster, raster-accepted}
-use Rattle.blocks.specs.RoundTrip.{codes-written, levels-written, colours-written, merged-accepted}
-use Rattle.blocks.specs.declared.Written.{Written}
+use Rattle.merging.specs.Promise.{blocksWritten, FromRaster, raster-accepted}
+use Rattle.merging.specs.Callers.{codes-written, levels-written, colours-written, merged-accepted}
+use Rattle.answers.specs.declared.Written.{Written}
 use Rattle.grid.specs.Listing.{owners, ends, allCorners}
 use Rattle.grid.specs.Stretches.{length-owners}
-use Rattle.paths.specs.Answers.{Put}
+use Rattle.answers.specs.Put.{Put}
 use Rattle.printing.specs.Lines.{byCycles}
 use Rattle.links.specs.Image.{imageOutlines}
-use Rattle.printing.specs.Outlines.{imageText, lines-by-cycles, outline-forms, outlines-room}
-use Rattle.printing.specs.Held.{cyclesIn, tracing-held}
+use Rattle.printing.specs.Outlines.{imageText, lines-by-cycles, outline-forms, outlines-need}
+use Rattle.held.specs.Held.{cyclesHeld, cycles-read-back}
 use Rattle.printing.specs.Writing.{Drawable}
 
 -- What is asked for the lines of a raster: a side of at most 64, and a text list of at least the need.
@@ -93,8 +93,8 @@ pub record Outlined (n : ℕ) (px os₀ es₀ cs₀ os es cs : List ℕ) (count 
   pub in-corners : cs ≡ over (allCorners (imageOutlines n px)) cs₀
 
 module _ {n : ℕ} {px os₀ es₀ cs₀ os es cs : List ℕ} {count : ℕ} (small : n ≤ 8) (o : Outlined n px os₀ es₀ cs₀ os es cs count) where
-  held : cyclesIn os es cs count ≡ imageOutlines n px
-  held = rw (o .counted, o .in-owners, o .in-ends, o .in-corners) (tracing-held (imageOutlines n px) os₀ es₀ cs₀)
+  held : cyclesHeld os es cs count ≡ imageOutlines n px
+  held = rw (o .counted, o .in-owners, o .in-ends, o .in-corners) (cycles-read-back (imageOutlines n px) os₀ es₀ cs₀)
 
   pub drawable : {text : List ℕ} → 26 * 4 ^ n ≤ length text → Drawable os es cs count text
   unfolding over
@@ -102,8 +102,8 @@ module _ {n : ℕ} {px os₀ es₀ cs₀ os es cs : List ℕ} {count : ℕ} (sma
       record {
         owned = omega (arith, o .counted, ap length (o .in-owners), length-append (owners (imageOutlines n px)) (drop (length (owners (imageOutlines n px))) os₀), length-owners (imageOutlines n px));
         forms = rw held (outline-forms n px small);
-        enough = rw held (omega (arith, outlines-room n px small));
+        enough = rw held (omega (arith, outlines-need n px small));
       }
 
-  pub drawn : {text text′ : List ℕ} {r : ℕ} → Put (byCycles (cyclesIn os es cs count)) text text′ r → Put (imageText n px) text text′ r
+  pub drawn : {text text′ : List ℕ} {r : ℕ} → Put (byCycles (cyclesHeld os es cs count)) text text′ r → Put (imageText n px) text text′ r
   drawn {text} {text′} {r} p = subst (λ (l : List ℕ). Put l text text′ r) (ap byCycles held ∙ lines-by-cycles n px small) p

@@ -12,9 +12,9 @@ use Rattle.sequences.specs.Cases.{first, when, first-none, first-some, first-ze
 use Rattle.sequences.specs.Over.{over, over-none}
 use Rattle.sequences.specs.Powers.{square-of-side, pow4-mono}
 use Rattle.quadtree.specs.Raster.{inCodeOrder}
-use Rattle.paths.specs.Decimal.{decimal-two}
-use Rattle.paths.specs.Answers.{Put}
-use Rattle.paths.specs.declared.Written.{Written}
+use Rattle.decimals.specs.Decimal.{decimal-two}
+use Rattle.answers.specs.Put.{Put}
+use Rattle.answers.specs.declared.Written.{Written}
 use Rattle.pgm.specs.Callers.{zero-accepted, refused-number, stretch-inside, stretch-length}
 use Rattle.pgm.specs.Picture.{answer, stretch}
 use Rattle.printing.specs.Outlines.{image-text-fits}

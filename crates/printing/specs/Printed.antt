@@ -8,8 +8,8 @@ use lib.ListN.{length, replicate}
 use Rattle.sequences.specs.Cases.{first, when}
 use Rattle.sequences.specs.Over.{over}
 use Rattle.quadtree.specs.Raster.{inCodeOrder}
-use Rattle.paths.specs.Decimal.{decimal}
-use Rattle.paths.specs.declared.Written.{Written}
+use Rattle.decimals.specs.Decimal.{decimal}
+use Rattle.answers.specs.declared.Written.{Written}
 use Rattle.pgm.specs.Picture.{answer, stretch}
 use Rattle.printing.specs.Outlines.{imageText}
 

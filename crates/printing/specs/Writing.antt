@@ -11,18 +11,20 @@ use Rattle.sequences.specs.Over.{over, over-none, over-push, length-over}
 use Rattle.sequences.specs.Tails.{tail-lent, over-tail}
 use Rattle.lattice.specs.CycleForm.{cycleForm}
 use Rattle.grid.specs.Listing.{Cycle}
-use Rattle.paths.specs.Stretch.{stretchOf}
-use Rattle.paths.specs.Svg.{pathData, svgNeed, svgNumber, Svg, need-suffices}
-use Rattle.paths.specs.Answers.{no-cause, Put}
-use Rattle.paths.specs.declared.Written.{Written}
-use Rattle.printing.specs.Lines.{isLast, lineEnd, byCycles, Forms, room, room-more, end-length}
-use Rattle.printing.specs.Held.{cyclesFrom, cyclesIn, endsLine, cycle-next, cycles-end, ends-line}
+use Rattle.stretches.specs.Stretch.{stretchOf}
+use Rattle.svg.specs.Svg.{pathData, svgNeed, svgNumber, Svg, need-suffices}
+use Rattle.answers.specs.Answers.{no-cause}
+use Rattle.answers.specs.Put.{Put}
+use Rattle.answers.specs.declared.Written.{Written}
+use Rattle.printing.specs.Lines.{isLast, lineEnd, byCycles, Forms, cyclesNeed, cycles-need-more, end-length}
+use Rattle.held.specs.Held.{cycleHeld, cyclesFrom, cyclesHeld, cycle-next, cycles-end}
+use Rattle.printing.specs.LineEnds.{endsLine, ends-line}
 
 -- The lists hold `count` cycle forms, and the text has room for them.
 pub record Drawable (os es cs : List ℕ) (count : ℕ) (text : List ℕ) : Type 0 where
   pub owned : count ≤ length os
-  pub forms : Forms (cyclesIn os es cs count)
-  pub enough : room (cyclesIn os es cs count) ≤ length text
+  pub forms : Forms (cyclesHeld os es cs count)
+  pub enough : cyclesNeed (cyclesHeld os es cs count) ≤ length text
 
 -- The text of the first k cycles stands at the front of the text.
 pub record Underway (os es cs : List ℕ) (count : ℕ) (text₀ text : List ℕ) (at k : ℕ) : Type 0 where
@@ -31,9 +33,9 @@ pub record Underway (os es cs : List ℕ) (count : ℕ) (text₀ text : List ℕ
   pub so-far : at ≡ length done
   pub list : text ≡ over done text₀
   pub long : length text ≡ length text₀
-  pub whole : done ++ byCycles (cyclesFrom os es cs count k (count - k)) ≡ byCycles (cyclesIn os es cs count)
+  pub whole : done ++ byCycles (cyclesFrom os es cs count k (count - k)) ≡ byCycles (cyclesHeld os es cs count)
   pub forms : Forms (cyclesFrom os es cs count k (count - k))
-  pub left : at + room (cyclesFrom os es cs count k (count - k)) ≤ length text₀
+  pub left : at + cyclesNeed (cyclesFrom os es cs count k (count - k)) ≤ length text₀
 
 -- What one cycle puts: its path data, and LF where it is the last of its region.
 abbrev pub cycleText : List ℕ → Bool → List ℕ
@@ -81,7 +83,7 @@ module _ {corners text text′ : List ℕ} {w : Written} (h : OneCycle corners t
 
 module _ {os es cs : List ℕ} {count : ℕ} {text₀ : List ℕ} where
   pub begin : Drawable os es cs count text₀ → Underway os es cs count text₀ text₀ 0 0
-  unfolding cyclesIn
+  unfolding cyclesHeld
   begin d =
       let z : count - 0 ≡ count = omega arith in
       record {
@@ -92,22 +94,21 @@ module _ {os es cs : List ℕ} {count : ℕ} {text₀ : List ℕ} where
         long = refl;
         whole = ap (λ (x : ℕ). byCycles (cyclesFrom os es cs count 0 x)) z;
         forms = subst (λ (x : ℕ). Forms (cyclesFrom os es cs count 0 x)) (sym z) (d .forms);
-        left = subst (λ (x : ℕ). 0 + room (cyclesFrom os es cs count 0 x) ≤ length text₀) (sym z) (omega (arith, d .enough));
+        left = subst (λ (x : ℕ). 0 + cyclesNeed (cyclesFrom os es cs count 0 x) ≤ length text₀) (sym z) (omega (arith, d .enough));
       }
 
   -- The cycle k, with the cycles after it.
   module _ {text : List ℕ} {at k : ℕ} (u : Underway os es cs count text₀ text at k) (more : k < count) where
-    abbrev here : Cycle
-    here = record { region = getD os k 0; points = stretchOf cs es count k }
-
     abbrev rest : List Cycle
     rest = cyclesFrom os es cs count (k + 1) (count - (k + 1))
 
     pub form-here : cycleForm (stretchOf cs es count k) ≡ true
+    unfolding cycleHeld
     form-here = subst Forms (cycle-next os es cs count k more) (u .forms) .0
 
-    room-here : at + (10 + 4 * length (stretchOf cs es count k) + room rest) ≤ length text₀
-    room-here = subst (λ (x : ℕ). at + x ≤ length text₀) (ap room (cycle-next os es cs count k more) ∙ room-more here rest) (u .left)
+    room-here : at + (10 + 4 * length (stretchOf cs es count k) + cyclesNeed rest) ≤ length text₀
+    unfolding cycleHeld
+    room-here = subst (λ (x : ℕ). at + x ≤ length text₀) (ap cyclesNeed (cycle-next os es cs count k more) ∙ cycles-need-more (cycleHeld os es cs count k) rest) (u .left)
 
     pub room-after : at + (10 + 4 * length (stretchOf cs es count k)) ≤ length text
     room-after = omega (arith, room-here, u .long)
@@ -121,7 +122,7 @@ module _ {os es cs : List ℕ} {count : ℕ} {text₀ : List ℕ} where
     put : {n : ℕ} {last : List ℕ} {b : Bool} → b ≡ endsLine os count k
         → Put (cycleText (stretchOf cs es count k) b) (midOf at (length text - at) text) last n
         → Underway os es cs count text₀ (putMid at (length text - at) text last) (at + n) (k + 1)
-    unfolding byCycles
+    unfolding byCycles cycleHeld
     put {n} {last} {b} e p =
         let new : List ℕ = cycleText (stretchOf cs es count k) b in
         let fits : length new ≤ 10 + 4 * length (stretchOf cs es count k) = cycle-text-fits (stretchOf cs es count k) b form-here in
@@ -154,9 +155,9 @@ module _ {os es cs : List ℕ} {count : ℕ} {text₀ : List ℕ} where
         omega (arith, room-after, ap length e, p .count-is, cycle-text-fits part b (ap cycleForm e ∙ form-here))
 
   -- No cycle is left.
-  pub finish : {text : List ℕ} {at k : ℕ} → Underway os es cs count text₀ text at k → count ≤ k → Put (byCycles (cyclesIn os es cs count)) text₀ text at
+  pub finish : {text : List ℕ} {at k : ℕ} → Underway os es cs count text₀ text at k → count ≤ k → Put (byCycles (cyclesHeld os es cs count)) text₀ text at
   unfolding byCycles
   finish {text} {at} {k} u h =
-      let all : u .done ≡ byCycles (cyclesIn os es cs count) =
+      let all : u .done ≡ byCycles (cyclesHeld os es cs count) =
       sym (simp append-nil) ∙ ap (λ (l : List Cycle). u .done ++ byCycles l) (sym (cycles-end os es cs count k h)) ∙ u .whole in
       record { count-is = u .so-far ∙ ap length all; list = u .list ∙ ap (λ (l : List ℕ). over l text₀) all }

@@ -3,7 +3,7 @@ mod lines;
 mod picture;
 mod refusal;
 
-use paths::Written;
+use answers::Written;
 ghost use Rattle.printing.specs.Printed.{Printing};
 
 // The lines of an accepted picture, or of a refused one its line: 15 above 8,192 bytes, then 10 to 14, then 8 with the need of

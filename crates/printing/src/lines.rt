@@ -2,9 +2,10 @@
 ghost use mathlib.Core.Path.{_≡_};
 ghost use Prim.Native.Nat.{_<_, _≤_};
 ghost use lib.ListN.{length};
-ghost use Rattle.paths.specs.Answers.{Put};
+ghost use Rattle.answers.specs.Put.{Put};
 ghost use Rattle.printing.specs.Lines.{byCycles};
-ghost use Rattle.printing.specs.Held.{cyclesIn, endsLine};
+ghost use Rattle.held.specs.Held.{cyclesHeld};
+ghost use Rattle.printing.specs.LineEnds.{endsLine};
 ghost use Rattle.printing.specs.Writing.{OneCycle, Drawable, cycleText};
 
 // Whether the cycle k is the last of its region.
@@ -24,7 +25,7 @@ fn put_cycle(corners: &[u32], last: bool, text: &mut [u8]) -> usize
     requires { ⌜ OneCycle (now corners) (now text) ⌝ }
     ensures { λ r. ⌜ Put (cycleText (now (corners .entry)) last) (now (text .entry)) (now (text .exit)) r ⌝ }
 {
-    let written = paths::svg(corners, text);
+    let written = svg::svg(corners, text);
     let n = written.count as usize;
     if last {
         text[n] = 10;
@@ -42,12 +43,12 @@ pub(crate) fn write(
     text: &mut [u8],
 ) -> usize
     requires { ⌜ Drawable (now owners) (now ends) (now corners) cycles (now text) ⌝ }
-    ensures { λ r. ⌜ Put (byCycles (cyclesIn (now (owners .entry)) (now (ends .entry)) (now (corners .entry)) cycles)) (now (text .entry)) (now (text .exit)) r ⌝ }
+    ensures { λ r. ⌜ Put (byCycles (cyclesHeld (now (owners .entry)) (now (ends .entry)) (now (corners .entry)) cycles)) (now (text .entry)) (now (text .exit)) r ⌝ }
 {
     let mut at: usize = 0;
     let mut k: u32 = 0;
     while k < cycles {
-        let part = paths::cycle(corners, ends, cycles, k);
+        let part = stretches::cycle(corners, ends, cycles, k);
         let last = ends_line(owners, cycles, k);
         let n = put_cycle(part, last, &mut text[at..]);
         at += n;

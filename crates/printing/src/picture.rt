@@ -2,14 +2,15 @@
 use crate::lines;
 ghost use Rattle.quadtree.specs.Blocks.{blocks, paint};
 ghost use Rattle.quadtree.specs.Raster.{inCodeOrder};
-ghost use Rattle.paths.specs.Answers.{Put};
+ghost use Rattle.answers.specs.Put.{Put};
 ghost use Rattle.printing.specs.Outlines.{imageText};
 ghost use Rattle.printing.specs.Picturing.{Drawing, Traceable};
 
 // The lines of an accepted block list.
 fn write_outlines(n: u32, codes: &[u32], levels: &[u8], colours: &[u8], text: &mut [u8]) -> usize
     requires { ⌜ Traceable n (now codes) (now levels) (now colours) (now text) ⌝ }
-    ensures { λ r. ⌜ Put (imageText n (paint (blocks (now (codes .entry)) (now (levels .entry)) (now (colours .entry))))) (now (text .entry)) (now (text .exit)) r ⌝ }
+    ensures { λ r. ⌜ Put (imageText n (paint (blocks (now (codes .entry)) (now (levels .entry)) (now (colours .entry)))))
+        (now (text .entry)) (now (text .exit)) r ⌝ }
 {
     let mut labels = [0u32; 4096];
     let mut work = [0u32; 8192];
@@ -38,7 +39,7 @@ pub(crate) fn write_picture(n: u32, raster: &[u8], text: &mut [u8]) -> usize
     let mut codes = [0u32; 4096];
     let mut levels = [0u8; 4096];
     let mut colours = [0u8; 4096];
-    let merged = blocks::from_raster(n, raster, &mut codes, &mut levels, &mut colours);
+    let merged = merging::from_raster(n, raster, &mut codes, &mut levels, &mut colours);
     let count = merged.count as usize;
     write_outlines(
         n,

@@ -1,5 +1,5 @@
 // The line of a refusal.
-use paths::Written;
+use answers::Written;
 ghost use Prim.Native.Nat.{_≤_, _<_};
 ghost use Rattle.printing.specs.Printed.{Refusing};
 

@@ -3,7 +3,7 @@ use mathlib.Core.List.{List, [], _∷_, _++_}
 use Prim.Native.Nat.{ℕ, _+_, _^_}
 use lib.ListN.{replicate}
 
--- "A block has a code (that of its northwest pixel), a level (its side is 2^level) and a colour" (document 01, "The dial as blocks").
+-- A block has a code, "that of its northwest pixel", a level, "its side is 2^level", and a colour (document 01, "The dial as blocks").
 pub record Block : Type 0 where
   pub code : ℕ
   pub level : ℕ

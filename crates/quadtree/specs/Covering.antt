@@ -1,6 +1,6 @@
 -- Lists that cover an image block by block: what number 0 of causes 3 to 6 says.
 use mathlib.Core.Path.{_≡_, refl, sym, ap, _∙_, subst}
-use mathlib.Core.Logic.{_↔_, _⊎_, inl, inr}
+use mathlib.Core.Logic.{_⊎_, inl, inr}
 use mathlib.Core.Bool.{Bool, true, false}
 use mathlib.Core.List.{List, [], _∷_, _++_, List·Memᴰ, List·Memᴰ·not-nil, List·Memᴰ·cases-cons}
 use Prim.Native.Nat.{ℕ, _+_, _-_, _%_, _^_, _≤_, _<_, _∣_}
@@ -8,9 +8,10 @@ use native.Mathlib.Nat.{dvd-sub, le-of-dvd, dvd-of-mod-eq-zero}
 use native.Mathlib.Omega.{arith}
 use lib.Dec.{eqb, ltb}
 use borrow.Author.Tests.{ltb-true, ltb-false, eqb-true, eqb-false, lt-ltb, le-ltb, eq-eqb, ne-eqb}
+use Rattle.sequences.specs.Cases.{first, when, first-none, first-zero, when-zero}
 use Rattle.sequences.specs.Powers.{pow4-divides}
 use Rattle.quadtree.specs.Blocks.{Block, pixels}
-use Rattle.quadtree.specs.Number.{cover}
+use Rattle.quadtree.specs.Number.{faultOf, cover}
 
 -- Where a block's code is a multiple of 4^level and lies in the image, the whole block does.
 pub block-fits : (n l c : ℕ) → l ≤ n → c < 4 ^ n → c % 4 ^ l ≡ 0 → c + 4 ^ l ≤ 4 ^ n
@@ -19,42 +20,70 @@ block-fits n l c low room multiple =
     let p : 0 < 4 ^ n - c = omega arith in
     omega (arith, le-of-dvd p d)
 
--- The equations of `cover`, one for each cause.
+-- What a block meets, cause by cause.
+pub fault-above : (n sum c l : ℕ) → n < l → faultOf n sum c l ≡ 3
+unfolding faultOf first when
+fault-above n sum c l h = rw (lt-ltb n l h) refl
+
+pub fault-elsewhere : (n sum c l : ℕ) → l ≤ n → (c ≡ sum → ⊥) → faultOf n sum c l ≡ 4
+unfolding faultOf first when
+fault-elsewhere n sum c l low h = rw (le-ltb n l low, ne-eqb c sum h) refl
+
+pub fault-full : (n sum c l : ℕ) → l ≤ n → c ≡ sum → sum ≡ 4 ^ n → faultOf n sum c l ≡ 4
+unfolding faultOf first when
+fault-full n sum c l low here h = rw (le-ltb n l low, eq-eqb c sum here, eq-eqb sum (4 ^ n) h) refl
+
+pub fault-crooked : (n sum c l : ℕ) → l ≤ n → c ≡ sum → (sum ≡ 4 ^ n → ⊥) → (c % 4 ^ l ≡ 0 → ⊥) → faultOf n sum c l ≡ 5
+unfolding faultOf first when
+fault-crooked n sum c l low here room h =
+    rw (le-ltb n l low, eq-eqb c sum here, ne-eqb sum (4 ^ n) room, ne-eqb (c % 4 ^ l) 0 h) refl
+
+-- It meets none exactly where it is a quadrant at the next code.
+pub record NoFault (n sum c l : ℕ) : Type 0 where
+  pub low : l ≤ n
+  pub here : c ≡ sum
+  pub short : sum ≡ 4 ^ n → ⊥
+  pub multiple : c % 4 ^ l ≡ 0
+
+pub fault-none : {n sum c l : ℕ} → NoFault n sum c l → faultOf n sum c l ≡ 0
+unfolding faultOf first when
+fault-none {n} {sum} {c} {l} h =
+    rw (le-ltb n l (h .low), eq-eqb c sum (h .here), ne-eqb sum (4 ^ n) (h .short), eq-eqb (c % 4 ^ l) 0 (h .multiple)) refl
+
+pub no-fault : (n sum c l : ℕ) → faultOf n sum c l ≡ 0 → NoFault n sum c l
+no-fault n sum c l e = pick (ltb n l) (eqb c sum) (eqb sum (4 ^ n)) (eqb (c % 4 ^ l) 0) refl refl refl refl
+  where
+    pick : (t u v w : Bool) → ltb n l ≡ t → eqb c sum ≡ u → eqb sum (4 ^ n) ≡ v → eqb (c % 4 ^ l) 0 ≡ w → NoFault n sum c l
+    pick true u v w p q r s = absurd (omega (arith, fault-above n sum c l (ltb-true n l p)))
+    pick false false v w p q r s = absurd (omega (arith, fault-elsewhere n sum c l (ltb-false n l p) (eqb-false c sum q)))
+    pick false true true w p q r s = absurd (omega (arith, fault-full n sum c l (ltb-false n l p) (eqb-true c sum q) (eqb-true sum (4 ^ n) r)))
+    pick false true false false p q r s =
+        absurd (omega (arith, fault-crooked n sum c l (ltb-false n l p) (eqb-true c sum q) (eqb-false sum (4 ^ n) r) (eqb-false (c % 4 ^ l) 0 s)))
+    pick false true false true p q r s =
+        record { low = ltb-false n l p; here = eqb-true c sum q; short = eqb-false sum (4 ^ n) r; multiple = eqb-true (c % 4 ^ l) 0 s }
+
+-- The whole block then lies in the image.
+pub no-fault-fits : {n sum c l : ℕ} → sum ≤ 4 ^ n → NoFault n sum c l → sum + 4 ^ l ≤ 4 ^ n
+no-fault-fits {n} {sum} {c} {l} most h =
+    let other : sum ≡ 4 ^ n → ⊥ = h .short in
+    let room : c < 4 ^ n = omega (arith, h .here) in
+    omega (arith, h .here, block-fits n l c (h .low) room (h .multiple))
+
+-- The list's end, and its first block before the others.
 pub cover-end-short : (n sum : ℕ) → sum < 4 ^ n → cover n sum [] ≡ 6
-unfolding cover
-cover-end-short n sum h = rw (lt-ltb sum (4 ^ n) h, cover)
+unfolding cover when
+cover-end-short n sum h = rw (lt-ltb sum (4 ^ n) h) refl
 
 pub cover-end-full : (n sum : ℕ) → 4 ^ n ≤ sum → cover n sum [] ≡ 0
-unfolding cover
-cover-end-full n sum h = rw (le-ltb sum (4 ^ n) h, cover)
+unfolding cover when
+cover-end-full n sum h = rw (le-ltb sum (4 ^ n) h) refl
 
-pub cover-above : (n sum : ℕ) (b : Block) (bs : List Block) → n < b .level → cover n sum (b ∷ bs) ≡ 3
+pub cover-first : (n sum : ℕ) (b : Block) (bs : List Block) → cover n sum (b ∷ bs) ≡ first (faultOf n sum (b .code) (b .level)) (cover n (sum + 4 ^ b .level) bs)
 unfolding cover
-cover-above n sum b bs h = rw (lt-ltb n (b .level) h, cover)
+cover-first n sum b bs = refl
 
-pub cover-elsewhere : (n sum : ℕ) (b : Block) (bs : List Block) → b .level ≤ n → (b .code ≡ sum → ⊥) → cover n sum (b ∷ bs) ≡ 4
-unfolding cover
-cover-elsewhere n sum b bs low h = rw (le-ltb n (b .level) low, ne-eqb (b .code) sum h, cover)
-
-pub cover-after-full : (n sum : ℕ) (b : Block) (bs : List Block) → b .level ≤ n → sum ≡ 4 ^ n → cover n sum (b ∷ bs) ≡ 4
-unfolding cover
-cover-after-full n sum b bs low h = pick (eqb (b .code) sum) refl
-  where
-    pick : (t : Bool) → eqb (b .code) sum ≡ t → cover n sum (b ∷ bs) ≡ 4
-    pick true e = rw (le-ltb n (b .level) low, e, eq-eqb sum (4 ^ n) h, cover)
-    pick false e = rw (le-ltb n (b .level) low, e, cover)
-
-pub cover-crooked : (n sum : ℕ) (b : Block) (bs : List Block) → b .level ≤ n → b .code ≡ sum → (sum ≡ 4 ^ n → ⊥) → (b .code % 4 ^ b .level ≡ 0 → ⊥)
-    → cover n sum (b ∷ bs) ≡ 5
-unfolding cover
-cover-crooked n sum b bs low here room h =
-    rw (le-ltb n (b .level) low, eq-eqb (b .code) sum here, ne-eqb sum (4 ^ n) room, ne-eqb (b .code % 4 ^ b .level) 0 h, cover)
-
-pub cover-more : (n sum : ℕ) (b : Block) (bs : List Block) → b .level ≤ n → b .code ≡ sum → (sum ≡ 4 ^ n → ⊥) → b .code % 4 ^ b .level ≡ 0
-    → cover n sum (b ∷ bs) ≡ cover n (sum + 4 ^ b .level) bs
-unfolding cover
-cover-more n sum b bs low here room h =
-    rw (le-ltb n (b .level) low, eq-eqb (b .code) sum here, ne-eqb sum (4 ^ n) room, eq-eqb (b .code % 4 ^ b .level) 0 h, cover)
+cover-more : (n sum : ℕ) (b : Block) (bs : List Block) → NoFault n sum (b .code) (b .level) → cover n sum (b ∷ bs) ≡ cover n (sum + 4 ^ b .level) bs
+cover-more n sum b bs h = cover-first n sum b bs ∙ first-none (faultOf n sum (b .code) (b .level)) (cover n (sum + 4 ^ b .level) bs) (fault-none h)
 
 -- A block list that covers the rest of an image of which `sum` pixels are covered: each block a quadrant at the next code.
 unfoldable pub Covers : ℕ → ℕ → List Block → Type 0
@@ -71,37 +100,15 @@ pub record NextBlock (n sum : ℕ) (b : Block) (bs : List Block) : Type 0 where
   pub rest : cover n (sum + 4 ^ b .level) bs ≡ 0
 
 pub cover-zero-end : (n sum : ℕ) → sum ≤ 4 ^ n → cover n sum [] ≡ 0 → sum ≡ 4 ^ n
-cover-zero-end n sum h e = pick (ltb sum (4 ^ n)) refl
-  where
-    pick : (t : Bool) → ltb sum (4 ^ n) ≡ t → sum ≡ 4 ^ n
-    pick true k = absurd (omega (arith, cover-end-short n sum (ltb-true sum (4 ^ n) k)))
-    pick false k = omega (arith, ltb-false sum (4 ^ n) k)
+unfolding cover
+cover-zero-end n sum h e = omega (arith, ltb-false sum (4 ^ n) (when-zero (ltb sum (4 ^ n)) 6 (omega arith) e))
 
 pub cover-zero : (n sum : ℕ) (b : Block) (bs : List Block) → sum ≤ 4 ^ n → cover n sum (b ∷ bs) ≡ 0 → NextBlock n sum b bs
-cover-zero n sum b bs most e = pick (ltb n (b .level)) (eqb (b .code) sum) (eqb sum (4 ^ n)) (eqb (b .code % 4 ^ b .level) 0) refl refl refl refl
-  where
-    pick : (t u v w : Bool) → ltb n (b .level) ≡ t → eqb (b .code) sum ≡ u → eqb sum (4 ^ n) ≡ v → eqb (b .code % 4 ^ b .level) 0 ≡ w → NextBlock n sum b bs
-    pick true u v w p q r s = absurd (omega (arith, cover-above n sum b bs (ltb-true n (b .level) p)))
-    pick false false v w p q r s = absurd (omega (arith, cover-elsewhere n sum b bs (ltb-false n (b .level) p) (eqb-false (b .code) sum q)))
-    pick false true true w p q r s = absurd (omega (arith, cover-after-full n sum b bs (ltb-false n (b .level) p) (eqb-true sum (4 ^ n) r)))
-    pick false true false false p q r s =
-        absurd
-        (omega
-        (arith, cover-crooked n sum b bs (ltb-false n (b .level) p) (eqb-true (b .code) sum q) (eqb-false sum (4 ^ n) r) (eqb-false (b .code % 4 ^ b .level) 0 s)))
-    pick false true false true p q r s =
-        let low : b .level ≤ n = ltb-false n (b .level) p in
-        let here : b .code ≡ sum = eqb-true (b .code) sum q in
-        let less : sum ≡ 4 ^ n → ⊥ = eqb-false sum (4 ^ n) r in
-        let multiple : b .code % 4 ^ b .level ≡ 0 = eqb-true (b .code % 4 ^ b .level) 0 s in
-        let room : sum < 4 ^ n = omega arith in
-        record {
-          low = low;
-          here = here;
-          room = room;
-          multiple = multiple;
-          fits = omega (arith, block-fits n (b .level) (b .code) low (omega arith) multiple);
-          rest = sym (cover-more n sum b bs low here less multiple) ∙ e;
-        }
+cover-zero n sum b bs most e =
+    let parts = first-zero (faultOf n sum (b .code) (b .level)) (cover n (sum + 4 ^ b .level) bs) (sym (cover-first n sum b bs) ∙ e) in
+    let none = no-fault n sum (b .code) (b .level) (parts .0) in
+    let other : sum ≡ 4 ^ n → ⊥ = none .short in
+    record { low = none .low; here = none .here; room = omega arith; multiple = none .multiple; fits = no-fault-fits most none; rest = parts .1 }
 
 pub covers-of-zero : (n sum : ℕ) (bs : List Block) → sum ≤ 4 ^ n → cover n sum bs ≡ 0 → Covers n sum bs
 unfolding Covers
@@ -114,10 +121,7 @@ pub zero-of-covers : (n sum : ℕ) (bs : List Block) → Covers n sum bs → cov
 unfolding Covers
 zero-of-covers n sum [] c = cover-end-full n sum (omega arith)
 zero-of-covers n sum (b ∷ bs) c =
-    cover-more n sum b bs (c .0) (c .1) (λ e. omega arith) (c .3) ∙ zero-of-covers n (sum + 4 ^ b .level) bs (c .4)
-
-pub cover-zero-exactly : (n sum : ℕ) (bs : List Block) → sum ≤ 4 ^ n → (cover n sum bs ≡ 0) ↔ Covers n sum bs
-cover-zero-exactly n sum bs most = (covers-of-zero n sum bs most, zero-of-covers n sum bs)
+    cover-more n sum b bs (record { low = c .0; here = c .1; short = λ e. omega arith; multiple = c .3 }) ∙ zero-of-covers n (sum + 4 ^ b .level) bs (c .4)
 
 -- ---- parts and members of a covering list
 

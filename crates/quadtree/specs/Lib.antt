@@ -14,5 +14,6 @@ pub mod Siblings
 pub mod Reducing
 pub mod Unmerged
 pub mod Fields
+pub mod Lists
 pub mod Accepted
 pub mod Meaning

@@ -1,20 +1,18 @@
 -- Merging an image from its first pixel on: at each code the largest level that the code's ending zeros leave open and
 -- whose pixels have one colour. What comes out is the quadtree.
-use mathlib.Core.Path.{_≡_, refl, sym, ap, ap₂, _∙_, subst}
-use mathlib.Core.Logic.{_≢_}
+use mathlib.Core.Path.{_≡_, refl, sym, ap, _∙_}
 use mathlib.Core.Bool.{Bool, true, false}
-use mathlib.Core.List.{List, [], _∷_, _++_, append-assoc, append-nil}
-use Prim.Native.Nat.{ℕ, zero, suc, _+_, _-_, _*_, _/_, _%_, _^_, _≤_, _<_}
-use native.Mathlib.Nat.{pow-suc, mul-assoc, mul-comm, add-mul}
+use mathlib.Core.List.{List, [], _∷_}
+use Prim.Native.Nat.{ℕ, zero, suc, _+_, _-_, _^_, _≤_, _<_}
 use native.Mathlib.Decide.{decLe}
 use native.Mathlib.Omega.{arith}
-use lib.ListN.{length, getD}
+use lib.ListN.{getD}
 use lib.Dec.{ltb}
 use borrow.Author.Tests.{lt-ltb, le-ltb}
-use Rattle.sequences.specs.Powers.{pow4-pos, pow4-mono}
+use Rattle.sequences.specs.Powers.{pow4-pos}
 use Rattle.location.specs.Levels.{topLevel}
 use Rattle.quadtree.specs.Blocks.{Block}
-use Rattle.quadtree.specs.Quadtree.{alike, quadrant, quadtree}
+use Rattle.quadtree.specs.Quadtree.{alike}
 
 -- The largest level up to `top` at the code c whose pixels have one colour.
 unfoldable pub levelUpTo : List ℕ → ℕ → ℕ → ℕ

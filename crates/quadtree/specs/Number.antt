@@ -1,34 +1,41 @@
 -- The number of a block list: which of the causes 1 to 8 applies first (document 01, "When the answer is a number").
 use mathlib.Core.Bool.{Bool, true, false, not, _&&_, _||_}
 use mathlib.Core.List.{List, [], _∷_}
-use Prim.Native.Nat.{ℕ, zero, suc, _+_, _*_, _%_, _^_}
+use Prim.Native.Nat.{ℕ, suc, _+_, _%_, _^_}
 use lib.ListN.{length}
 use lib.Dec.{eqb, ltb}
 use Rattle.sequences.specs.Cases.{first, when}
 use Rattle.quadtree.specs.Blocks.{Block, blocks}
 
--- Causes 3, 4 and 5 per block in list order, then 6, for an image of side 2^n of which `sum` pixels are covered:
--- 3 "a level above n"; 4 "a code is not the sum of 4^level over the blocks before it, or that sum is already 4^n";
--- 5 "a code is not a multiple of 4^level"; 6 "the list ends with less than 4^n pixels covered".
-unfoldable pub cover : ℕ → ℕ → List Block → ℕ
-cover n sum [] = elim (ltb sum (4 ^ n)) [ true ↦ 6 | false ↦ 0 ]
-cover n sum (b ∷ bs) =
-    elim (ltb n (b .level)) [
-      | true ↦ 3
-      | false ↦
-          elim (not (eqb (b .code) sum) || eqb sum (4 ^ n)) [
-            | true ↦ 4
-            | false ↦ elim (eqb (b .code % 4 ^ b .level) 0) [ true ↦ cover n (sum + 4 ^ b .level) bs | false ↦ 5 ]
-          ]
-    ]
+-- The cause that a block meets in an image of side 2^n of which `sum` pixels are covered before it, 0 for none: 3 "a level above n";
+-- 4 "a code is not the sum of 4^level over the blocks before it, or that sum is already 4^n"; 5 "a code is not a multiple of 4^level".
+unfoldable pub faultOf : ℕ → ℕ → ℕ → ℕ → ℕ
+unfolding first when
+faultOf n sum code level =
+    first (when (ltb n level) 3)
+    (first (when (not (eqb code sum) || eqb sum (4 ^ n)) 4)
+    (when (not (eqb (code % 4 ^ level) 0)) 5))
 
--- Cause 7 at one place: "four successive blocks of equal level below n and equal colour, the first code a multiple of
+-- "per block in list order 3, 4, 5, then 6": 6 "the list ends with less than 4^n pixels covered".
+unfoldable pub cover : ℕ → ℕ → List Block → ℕ
+unfolding first when faultOf
+cover n sum [] = when (ltb sum (4 ^ n)) 6
+cover n sum (b ∷ bs) = first (faultOf n sum (b .code) (b .level)) (cover n (sum + 4 ^ b .level) bs)
+
+-- Whether four numbers are equal.
+unfoldable pub fourAlike : ℕ → ℕ → ℕ → ℕ → Bool
+fourAlike a b c d = eqb b a && (eqb c a && eqb d a)
+
+-- Cause 7 at one place but for the colours: four successive blocks "of equal level below n .., the first code a multiple of
 -- 4^(level+1)".
+unfoldable pub fourSiblings : ℕ → Block → Block → Block → Block → Bool
+unfolding fourAlike
+fourSiblings n a b c d = ltb (a .level) n && (eqb (a .code % 4 ^ suc (a .level)) 0 && fourAlike (a .level) (b .level) (c .level) (d .level))
+
+-- Cause 7 at one place: such blocks "of .. equal colour".
 unfoldable pub mergeable : ℕ → Block → Block → Block → Block → Bool
-mergeable n a b c d =
-    ltb (a .level) n && (eqb (a .code % 4 ^ suc (a .level)) 0
-    && (eqb (b .level) (a .level) && (eqb (c .level) (a .level) && (eqb (d .level) (a .level)
-    && (eqb (b .colour) (a .colour) && (eqb (c .colour) (a .colour) && eqb (d .colour) (a .colour)))))))
+unfolding fourAlike fourSiblings
+mergeable n a b c d = fourSiblings n a b c d && fourAlike (a .colour) (b .colour) (c .colour) (d .colour)
 
 -- Cause 7 anywhere in the list.
 unfoldable pub siblings : ℕ → List Block → Bool

@@ -1,5 +1,5 @@
 -- The two orders of a raster undo each other, for every n.
-use mathlib.Core.Path.{_≡_, refl, sym, ap, ap₂, _∙_}
+use mathlib.Core.Path.{_≡_, sym, ap, ap₂, _∙_}
 use mathlib.Core.List.{List}
 use Prim.Native.Nat.{ℕ, _+_, _*_, _/_, _%_, _^_, _≤_, _<_}
 use native.Mathlib.Nat.{div-add-mod', mod-lt, div-lt-iff-lt-mul}
@@ -7,9 +7,10 @@ use native.Mathlib.Omega.{arith}
 use lib.ListN.{length, getD}
 use lib.Arith.{digits-lt, digits-div, digits-mod}
 use Rattle.sequences.specs.Powers.{pow2-pos, square-of-side}
-use Rattle.sequences.specs.Ranges.{tabulate, length-tabulate, tabulate-at, tabulate-from}
-use Rattle.location.specs.Codes.{code, column, row}
+use Rattle.sequences.specs.Ranges.{length-tabulate, tabulate-at, tabulate-from}
+use Rattle.location.specs.Codes.{code, row}
 use Rattle.location.specs.Interleaving.{code-below, column-below, row-below, column-of-code, row-of-code, code-of-coordinates}
+use Rattle.location.specs.Places.{placeOf, place-in-image}
 use Rattle.quadtree.specs.Raster.{place, inCodeOrder, inRows}
 
 -- The pixel at the place i of a raster: its column and row lie in the image.
@@ -23,6 +24,11 @@ row-in n i h = div-lt-iff-lt-mul (pow2-pos n) .1 (omega (arith, square-of-side n
 pub place-of-code : (n x y : ℕ) → x < 2 ^ n → y < 2 ^ n → place n (code n x y) ≡ y * 2 ^ n + x
 unfolding place
 place-of-code n x y hx hy = ap₂ (λ (a b : ℕ). a * 2 ^ n + b) (row-of-code n x y hy) (column-of-code n x y hx)
+
+-- The location crate works it out from the code.
+pub place-worked-out : (n c : ℕ) → n ≤ 16 → c < 4 ^ n → placeOf n c ≡ place n c
+unfolding place
+place-worked-out n c small inside = place-in-image n c small inside
 
 pub place-in : (n c : ℕ) → place n c < 4 ^ n
 unfolding place

@@ -1,6 +1,5 @@
 -- Painting the quadtree of an image gives the image back.
-use mathlib.Core.Path.{_≡_, refl, sym, ap, _∙_, subst}
-use mathlib.Core.Logic.{_↔_}
+use mathlib.Core.Path.{_≡_, refl, sym, ap, _∙_}
 use mathlib.Core.Bool.{Bool, true, false, false≢true}
 use mathlib.Core.List.{List, [], _∷_, _++_, append-assoc, append-nil}
 use Prim.Native.Nat.{ℕ, zero, suc, _+_, _-_, _^_, _≤_, _<_}
@@ -9,7 +8,6 @@ use lib.ListN.{length, getD, take, drop, replicate, length-append, length-replic
 use lib.Seq.{ext-getD, getD-take, getD-drop, take-add, drop-drop, drop-cons, take-all}
 use lib.Dec.{eqb}
 use borrow.Author.Tests.{eqb-true, eq-eqb}
-use Rattle.sequences.specs.Cases.{same-test}
 use Rattle.sequences.specs.Powers.{pow4-pos}
 use Rattle.quadtree.specs.Blocks.{Block, pixels, paint}
 use Rattle.quadtree.specs.Quadtree.{alike, quadrant, quadtree}
@@ -39,9 +37,6 @@ each-alike px v c (suc k) h =
     let here : c + 0 ≡ c = omega arith in
     rw (eq-eqb (getD px c 0) v (ap (λ (j : ℕ). getD px j 0) (sym here) ∙ h 0 (omega arith)), alike)
     (each-alike px v (suc c) k (λ i l. let same : suc c + i ≡ c + suc i = omega arith in ap (λ (j : ℕ). getD px j 0) same ∙ h (suc i) (omega arith)))
-
-pub alike-exactly : (px : List ℕ) (v c k : ℕ) → (alike px v c k ≡ true) ↔ ((i : ℕ) → i < k → getD px (c + i) 0 ≡ v)
-alike-exactly px v c k = (alike-each px v c k, each-alike px v c k)
 
 -- The cases of a quadrant, as equations.
 pub quadrant-pixel : (px : List ℕ) (c : ℕ) → quadrant px 0 c ≡ block c 0 (getD px c 0) ∷ []
@@ -143,50 +138,3 @@ paint-quadrant px (suc m) c room = pick (alike px (getD px c 0) c (4 ^ suc m)) r
 pub paint-quadtree : (n : ℕ) (px : List ℕ) → length px ≡ 4 ^ n → paint (quadtree n px) ≡ px
 unfolding quadtree
 paint-quadtree n px long = paint-quadrant px n 0 (omega arith) ∙ take-all (4 ^ n) px (omega arith)
-
--- A quadrant depends only on its own pixels.
-pub alike-same : (px qx : List ℕ) (v c k : ℕ) → ((i : ℕ) → i < k → getD px (c + i) 0 ≡ getD qx (c + i) 0) → alike px v c k ≡ alike qx v c k
-alike-same px qx v c k same =
-    same-test (alike px v c k) (alike qx v c k)
-    (λ h. each-alike qx v c k (λ i l. sym (same i l) ∙ alike-each px v c k h i l))
-    (λ h. each-alike px v c k (λ i l. same i l ∙ alike-each qx v c k h i l))
-
-first-same : (px qx : List ℕ) (c k : ℕ) → 0 < k → ((i : ℕ) → i < k → getD px (c + i) 0 ≡ getD qx (c + i) 0) → getD px c 0 ≡ getD qx c 0
-first-same px qx c k pos same = let here : c + 0 ≡ c = omega arith in subst (λ x. getD px x 0 ≡ getD qx x 0) here (same 0 pos)
-
-pub quadrant-same : (px qx : List ℕ) (m c : ℕ) → ((i : ℕ) → i < 4 ^ m → getD px (c + i) 0 ≡ getD qx (c + i) 0) → quadrant px m c ≡ quadrant qx m c
-quadrant-same px qx zero c same =
-    quadrant-pixel px c ∙ ap (λ (v : ℕ). block c 0 v ∷ []) (first-same px qx c 1 (omega arith) same) ∙ sym (quadrant-pixel qx c)
-quadrant-same px qx (suc m) c same = pick (alike px (getD px c 0) c (4 ^ suc m)) refl (quadrant-same px qx m)
-  where
-    colour : getD px c 0 ≡ getD qx c 0
-    colour = first-same px qx c (4 ^ suc m) (pow4-pos (suc m)) same
-
-    test : alike qx (getD qx c 0) c (4 ^ suc m) ≡ alike px (getD px c 0) c (4 ^ suc m)
-    test = ap (λ (v : ℕ). alike qx v c (4 ^ suc m)) (sym colour) ∙ sym (alike-same px qx (getD px c 0) c (4 ^ suc m) same)
-
-    part : (d : ℕ) → c ≤ d → d + 4 ^ m ≤ c + 4 ^ suc m → (i : ℕ) → i < 4 ^ m → getD px (d + i) 0 ≡ getD qx (d + i) 0
-    part d low high i l =
-        let here : c + (d + i - c) ≡ d + i = omega arith in
-        subst (λ x. getD px x 0 ≡ getD qx x 0) here (same (d + i - c) (omega arith))
-
-    pick : (b : Bool) → alike px (getD px c 0) c (4 ^ suc m) ≡ b
-        → ((d : ℕ) → ((i : ℕ) → i < 4 ^ m → getD px (d + i) 0 ≡ getD qx (d + i) 0) → quadrant px m d ≡ quadrant qx m d)
-        → quadrant px (suc m) c ≡ quadrant qx (suc m) c
-    pick true e ih = quadrant-one px m c e ∙ ap (λ (v : ℕ). block c (suc m) v ∷ []) colour ∙ sym (quadrant-one qx m c (test ∙ e))
-    pick false e ih =
-        quadrant-four px m c e
-        ∙ rw (
-          ih c (part c (omega arith) (omega arith)),
-          ih (c + 4 ^ m) (part (c + 4 ^ m) (omega arith) (omega arith)),
-          ih (c + 4 ^ m + 4 ^ m) (part (c + 4 ^ m + 4 ^ m) (omega arith) (omega arith)),
-          ih (c + 4 ^ m + 4 ^ m + 4 ^ m) (part (c + 4 ^ m + 4 ^ m + 4 ^ m) (omega arith) (omega arith)),
-        )
-        refl
-        ∙ sym (quadrant-four qx m c (test ∙ e))
-
--- A quadtree depends only on the pixels of its image.
-pub quadtree-same : (n : ℕ) (px qx : List ℕ) → ((i : ℕ) → i < 4 ^ n → getD px i 0 ≡ getD qx i 0) → quadtree n px ≡ quadtree n qx
-unfolding quadtree
-quadtree-same n px qx same =
-    quadrant-same px qx n 0 (λ i l. let here : i ≡ 0 + i = omega arith in subst (λ x. getD px x 0 ≡ getD qx x 0) here (same i l))

@@ -1,5 +1,4 @@
 -- Section 2's quadtree of an image: the one merged list of blocks.
-use mathlib.Core.Path.{_≡_}
 use mathlib.Core.Bool.{Bool, true, false}
 use mathlib.Core.List.{List, [], _∷_, _++_}
 use Prim.Native.Nat.{ℕ, zero, suc, _+_, _^_}
@@ -13,7 +12,7 @@ unfoldable pub alike : List ℕ → ℕ → ℕ → ℕ → Bool
 alike px v c zero = true
 alike px v c (suc k) = elim (eqb (getD px c 0) v) [ true ↦ alike px v (suc c) k | false ↦ false ]
 
--- The square of level m at the code c: "each quadrant that is not homogeneous (i.e., whose pixels do not all have the same
+-- The square of level m at the code c: "Each quadrant that is not homogeneous (i.e., whose pixels do not all have the same
 -- associated value) is further decomposed", in the order northwest, northeast, southwest, southeast (document 000, section 2).
 unfoldable pub quadrant : List ℕ → ℕ → ℕ → List Block
 unfolding alike

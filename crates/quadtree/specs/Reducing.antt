@@ -93,50 +93,52 @@ flat-inside (suc m) c (node p q r s) b i =
     (λ j. widen (omega arith) (omega arith) (flat-inside m (c + 4 ^ m + 4 ^ m + 4 ^ m) s b j))
     i
 
-module _ (m c : ℕ) (p q r s : Tree m) (b : Block) where
-  abbrev P : List Block
-  P = flat m c p
+-- A block of no higher level than a square does not begin in one square of that level and stand in the list of another.
+elsewhere : {X : Type 0} (m d : ℕ) (t : Tree m) (b : Block) → (b .code < d) ⊎ (d + 4 ^ m ≤ b .code) → List·Memᴰ b (flat m d t) → X
+elsewhere m d t b (inl h) j = absurd (omega (arith, flat-inside m d t b j .starts))
+elsewhere m d t b (inr h) j = absurd (omega (arith, flat-inside m d t b j .ends, pow4-pos (b .level)))
 
-  abbrev Q : List Block
-  Q = flat m (c + 4 ^ m) q
+module _ (m c : ℕ) (p q r s : Tree m) where
+  abbrev Listed : Block → Type 0
+  Listed b = List·Memᴰ b (flat (suc m) c (node p q r s))
 
-  abbrev R : List Block
-  R = flat m (c + 4 ^ m + 4 ^ m) r
-
-  abbrev S : List Block
-  S = flat m (c + 4 ^ m + 4 ^ m + 4 ^ m) s
-
-  cases : {X : Type 0} → (List·Memᴰ b P → X) → (List·Memᴰ b Q → X) → (List·Memᴰ b R → X) → (List·Memᴰ b S → X) → List·Memᴰ b (flat (suc m) c (node p q r s)) → X
+  cases : {X : Type 0} (b : Block) → (List·Memᴰ b (flat m c p) → X) → (List·Memᴰ b (flat m (c + 4 ^ m) q) → X) → (List·Memᴰ b (flat m (c + 4 ^ m + 4 ^ m) r) → X)
+      → (List·Memᴰ b (flat m (c + 4 ^ m + 4 ^ m + 4 ^ m) s) → X) → Listed b → X
   unfolding flat
-  cases f g h k i = quarter-cases b P Q R S f g h k i
+  cases b f g h k i =
+      quarter-cases b (flat m c p) (flat m (c + 4 ^ m) q) (flat m (c + 4 ^ m + 4 ^ m) r) (flat m (c + 4 ^ m + 4 ^ m + 4 ^ m) s) f g h k i
 
-  node-low : List·Memᴰ b (flat (suc m) c (node p q r s)) → b .level ≤ m
-  node-low i =
-      cases (λ j. flat-inside m c p b j .low) (λ j. flat-inside m (c + 4 ^ m) q b j .low) (λ j. flat-inside m (c + 4 ^ m + 4 ^ m) r b j .low)
+  node-low : (b : Block) → Listed b → b .level ≤ m
+  node-low b i =
+      cases b (λ j. flat-inside m c p b j .low) (λ j. flat-inside m (c + 4 ^ m) q b j .low) (λ j. flat-inside m (c + 4 ^ m + 4 ^ m) r b j .low)
       (λ j. flat-inside m (c + 4 ^ m + 4 ^ m + 4 ^ m) s b j .low) i
 
-  in-first : b .code < c + 4 ^ m → List·Memᴰ b (flat (suc m) c (node p q r s)) → List·Memᴰ b P
-  in-first high i =
-      cases (λ j. j) (λ j. absurd (omega (arith, flat-inside m (c + 4 ^ m) q b j .starts))) (λ j. absurd (omega (arith, flat-inside m (c + 4 ^ m + 4 ^ m) r b j .starts)))
-      (λ j. absurd (omega (arith, flat-inside m (c + 4 ^ m + 4 ^ m + 4 ^ m) s b j .starts))) i
+  -- The square t at the code d is a quarter: a block of the list that begins in it stands in its list.
+  abbrev Quarter : ℕ → Tree m → Type 0
+  Quarter d t = (b : Block) → d ≤ b .code → b .code < d + 4 ^ m → Listed b → List·Memᴰ b (flat m d t)
 
-  in-second : c + 4 ^ m ≤ b .code → b .code < c + 4 ^ m + 4 ^ m → List·Memᴰ b (flat (suc m) c (node p q r s)) → List·Memᴰ b Q
-  in-second low high i =
-      cases (λ j. absurd (omega (arith, flat-inside m c p b j .ends, pow4-pos (b .level)))) (λ j. j) (λ j. absurd (omega (arith, flat-inside m (c + 4 ^ m + 4 ^ m) r b j .starts)))
-      (λ j. absurd (omega (arith, flat-inside m (c + 4 ^ m + 4 ^ m + 4 ^ m) s b j .starts))) i
+  northwest : Quarter c p
+  northwest b low high i =
+      cases b (λ j. j) (elsewhere m (c + 4 ^ m) q b (inl (omega arith))) (elsewhere m (c + 4 ^ m + 4 ^ m) r b (inl (omega arith)))
+      (elsewhere m (c + 4 ^ m + 4 ^ m + 4 ^ m) s b (inl (omega arith))) i
 
-  in-third : c + 4 ^ m + 4 ^ m ≤ b .code → b .code < c + 4 ^ m + 4 ^ m + 4 ^ m → List·Memᴰ b (flat (suc m) c (node p q r s)) → List·Memᴰ b R
-  in-third low high i =
-      cases (λ j. absurd (omega (arith, flat-inside m c p b j .ends, pow4-pos (b .level)))) (λ j. absurd (omega (arith, flat-inside m (c + 4 ^ m) q b j .ends, pow4-pos (b .level)))) (λ j. j)
-      (λ j. absurd (omega (arith, flat-inside m (c + 4 ^ m + 4 ^ m + 4 ^ m) s b j .starts))) i
+  northeast : Quarter (c + 4 ^ m) q
+  northeast b low high i =
+      cases b (elsewhere m c p b (inr (omega arith))) (λ j. j) (elsewhere m (c + 4 ^ m + 4 ^ m) r b (inl (omega arith)))
+      (elsewhere m (c + 4 ^ m + 4 ^ m + 4 ^ m) s b (inl (omega arith))) i
 
-  in-fourth : c + 4 ^ m + 4 ^ m + 4 ^ m ≤ b .code → List·Memᴰ b (flat (suc m) c (node p q r s)) → List·Memᴰ b S
-  in-fourth low i =
-      cases (λ j. absurd (omega (arith, flat-inside m c p b j .ends, pow4-pos (b .level)))) (λ j. absurd (omega (arith, flat-inside m (c + 4 ^ m) q b j .ends, pow4-pos (b .level))))
-      (λ j. absurd (omega (arith, flat-inside m (c + 4 ^ m + 4 ^ m) r b j .ends, pow4-pos (b .level)))) (λ j. j) i
+  southwest : Quarter (c + 4 ^ m + 4 ^ m) r
+  southwest b low high i =
+      cases b (elsewhere m c p b (inr (omega arith))) (elsewhere m (c + 4 ^ m) q b (inr (omega arith))) (λ j. j)
+      (elsewhere m (c + 4 ^ m + 4 ^ m + 4 ^ m) s b (inl (omega arith))) i
+
+  southeast : Quarter (c + 4 ^ m + 4 ^ m + 4 ^ m) s
+  southeast b low high i =
+      cases b (elsewhere m c p b (inr (omega arith))) (elsewhere m (c + 4 ^ m) q b (inr (omega arith)))
+      (elsewhere m (c + 4 ^ m + 4 ^ m) r b (inr (omega arith))) (λ j. j) i
 
 -- A block as large as the square is the square.
-pub top-leaf : (m c : ℕ) (t : Tree m) (b : Block) → List·Memᴰ b (flat m c t) → b .level ≡ m → t ≡ leaf (b .colour)
+top-leaf : (m c : ℕ) (t : Tree m) (b : Block) → List·Memᴰ b (flat m c t) → b .level ≡ m → t ≡ leaf (b .colour)
 unfolding flat
 top-leaf m c (leaf v) b i e = ap leaf (sym (ap (λ (x : Block). x .colour) (List·Memᴰ·eq-of-singleton i)))
 top-leaf (suc m) c (node p q r s) b i e = absurd (omega (arith, node-low m c p q r s b i))
@@ -151,80 +153,35 @@ siblings-fit m d l q dm below dq high =
 
 -- Siblings in the list of a square of level m + 1: they are its quarters, or all four lie in one quarter.
 module _ (m c : ℕ) (p q r s : Tree m) (l k v : ℕ) (f : SiblingBlocks (flat (suc m) c (node p q r s)) l k v) where
-  abbrev nw : Block
-  nw = block k l v
-
-  abbrev ne : Block
-  ne = block (k + 4 ^ l) l v
-
-  abbrev sw : Block
-  sw = block (k + 2 * 4 ^ l) l v
-
-  abbrev se : Block
-  se = block (k + 3 * 4 ^ l) l v
+  is-leaf : (d e : ℕ) (t : Tree m) → Quarter m c p q r s d t → l ≡ m → e ≡ d → Listed m c p q r s (block e l v) → t ≡ leaf v
+  is-leaf d e t quarter same here i =
+      top-leaf m d t (block e l v) (quarter (block e l v) (omega arith) (omega (arith, pow4-pos m)) i) same
 
   are-quarters : l ≡ m → (p ≡ leaf v) × (q ≡ leaf v) × (r ≡ leaf v) × (s ≡ leaf v)
   are-quarters e =
       let size : 4 ^ l ≡ 4 ^ m = ap (λ (x : ℕ). 4 ^ x) e in
-      let first : c ≤ k = flat-inside (suc m) c (node p q r s) nw (f .northwest) .starts in
-      let last : k + 3 * 4 ^ l + 4 ^ l ≤ c + 4 ^ suc m = flat-inside (suc m) c (node p q r s) se (f .southeast) .ends in
-      let here : k ≡ c = omega arith in
-      let pos : 0 < 4 ^ m = pow4-pos m in (
-        top-leaf m c p nw (in-first m c p q r s nw (omega arith) (f .northwest)) e,
-        top-leaf m (c + 4 ^ m) q ne (in-second m c p q r s ne (omega arith) (omega arith) (f .northeast)) e,
-        top-leaf m (c + 4 ^ m + 4 ^ m) r sw (in-third m c p q r s sw (omega arith) (omega arith) (f .southwest)) e,
-        top-leaf m (c + 4 ^ m + 4 ^ m + 4 ^ m) s se (in-fourth m c p q r s se (omega arith) (f .southeast)) e,
+      let first : c ≤ k = flat-inside (suc m) c (node p q r s) (block k l v) (f .northwest) .starts in
+      let last : k + 3 * 4 ^ l + 4 ^ l ≤ c + 4 ^ suc m = flat-inside (suc m) c (node p q r s) (block (k + 3 * 4 ^ l) l v) (f .southeast) .ends in
+      let here : k ≡ c = omega arith in (
+        is-leaf c k p (northwest m c p q r s) e here (f .northwest),
+        is-leaf (c + 4 ^ m) (k + 4 ^ l) q (northeast m c p q r s) e (omega arith) (f .northeast),
+        is-leaf (c + 4 ^ m + 4 ^ m) (k + 2 * 4 ^ l) r (southwest m c p q r s) e (omega arith) (f .southwest),
+        is-leaf (c + 4 ^ m + 4 ^ m + 4 ^ m) (k + 3 * 4 ^ l) s (southeast m c p q r s) e (omega arith) (f .southeast),
       )
 
-  module _ (below : l < m) (dk : 4 ^ suc l ∣ k) where
-    fit : (d : ℕ) → 4 ^ m ∣ d → k + 4 ^ l ≤ d + 4 ^ m → k + 4 ^ suc l ≤ d + 4 ^ m
-    fit d dd high = siblings-fit m d l k dd below dk (omega (arith, pow4-pos l))
-
-    all-in-first : 4 ^ m ∣ c → List·Memᴰ nw (flat m c p) → SiblingBlocks (flat m c p) l k v
-    all-in-first dd j =
-        let inside = flat-inside m c p nw j in
-        let room : k + 4 ^ suc l ≤ c + 4 ^ m = fit c dd (inside .ends) in
-        let pos : 0 < 4 ^ l = pow4-pos l in
-        record {
-          northwest = j;
-          northeast = in-first m c p q r s ne (omega arith) (f .northeast);
-          southwest = in-first m c p q r s sw (omega arith) (f .southwest);
-          southeast = in-first m c p q r s se (omega arith) (f .southeast);
-        }
-
-    all-in-second : 4 ^ m ∣ c + 4 ^ m → List·Memᴰ nw (flat m (c + 4 ^ m) q) → SiblingBlocks (flat m (c + 4 ^ m) q) l k v
-    all-in-second dd j =
-        let inside = flat-inside m (c + 4 ^ m) q nw j in
-        let room : k + 4 ^ suc l ≤ c + 4 ^ m + 4 ^ m = fit (c + 4 ^ m) dd (inside .ends) in
-        let pos : 0 < 4 ^ l = pow4-pos l in
-        record {
-          northwest = j;
-          northeast = in-second m c p q r s ne (omega arith) (omega arith) (f .northeast);
-          southwest = in-second m c p q r s sw (omega arith) (omega arith) (f .southwest);
-          southeast = in-second m c p q r s se (omega arith) (omega arith) (f .southeast);
-        }
-
-    all-in-third : 4 ^ m ∣ c + 4 ^ m + 4 ^ m → List·Memᴰ nw (flat m (c + 4 ^ m + 4 ^ m) r) → SiblingBlocks (flat m (c + 4 ^ m + 4 ^ m) r) l k v
-    all-in-third dd j =
-        let inside = flat-inside m (c + 4 ^ m + 4 ^ m) r nw j in
-        let room : k + 4 ^ suc l ≤ c + 4 ^ m + 4 ^ m + 4 ^ m = fit (c + 4 ^ m + 4 ^ m) dd (inside .ends) in
-        let pos : 0 < 4 ^ l = pow4-pos l in
-        record {
-          northwest = j;
-          northeast = in-third m c p q r s ne (omega arith) (omega arith) (f .northeast);
-          southwest = in-third m c p q r s sw (omega arith) (omega arith) (f .southwest);
-          southeast = in-third m c p q r s se (omega arith) (omega arith) (f .southeast);
-        }
-
-    all-in-fourth : 4 ^ m ∣ c + 4 ^ m + 4 ^ m + 4 ^ m → List·Memᴰ nw (flat m (c + 4 ^ m + 4 ^ m + 4 ^ m) s) → SiblingBlocks (flat m (c + 4 ^ m + 4 ^ m + 4 ^ m) s) l k v
-    all-in-fourth dd j =
-        let inside = flat-inside m (c + 4 ^ m + 4 ^ m + 4 ^ m) s nw j in
-        record {
-          northwest = j;
-          northeast = in-fourth m c p q r s ne (omega arith) (f .northeast);
-          southwest = in-fourth m c p q r s sw (omega arith) (f .southwest);
-          southeast = in-fourth m c p q r s se (omega arith) (f .southeast);
-        }
+  all-in : l < m → 4 ^ suc l ∣ k → (d : ℕ) (t : Tree m) → Quarter m c p q r s d t → 4 ^ m ∣ d → List·Memᴰ (block k l v) (flat m d t)
+      → SiblingBlocks (flat m d t) l k v
+  all-in below dk d t quarter dd j =
+      let inside = flat-inside m d t (block k l v) j in
+      let pos : 0 < 4 ^ l = pow4-pos l in
+      let room : k + 4 ^ suc l ≤ d + 4 ^ m = siblings-fit m d l k dd below dk (omega (arith, inside .ends)) in
+      let starts : d ≤ k = inside .starts in
+      record {
+        northwest = j;
+        northeast = quarter (block (k + 4 ^ l) l v) (omega arith) (omega arith) (f .northeast);
+        southwest = quarter (block (k + 2 * 4 ^ l) l v) (omega arith) (omega arith) (f .southwest);
+        southeast = quarter (block (k + 3 * 4 ^ l) l v) (omega arith) (omega arith) (f .southeast);
+      }
 
 -- In the list of a reduced square no four siblings share a colour.
 abbrev UnmergedSquare : (m c : ℕ) → Tree m → Type 0
@@ -245,8 +202,8 @@ reduced-unmerged (suc m) c (node p q r s) h d l k v below dk f =
     pick ip iq ir is (inl e) = let leaves = are-quarters m c p q r s l k v f e in h .0 v (leaves .0) (leaves .1) (leaves .2) (leaves .3)
     pick ip iq ir is (inr less) =
         cases m c p q r s (block k l v)
-        (λ j. ip l k v less dk (all-in-first m c p q r s l k v f less dk (ds .0) j))
-        (λ j. iq l k v less dk (all-in-second m c p q r s l k v f less dk (ds .1) j))
-        (λ j. ir l k v less dk (all-in-third m c p q r s l k v f less dk (ds .2) j))
-        (λ j. is l k v less dk (all-in-fourth m c p q r s l k v f less dk (ds .3) j))
+        (λ j. ip l k v less dk (all-in m c p q r s l k v f less dk c p (northwest m c p q r s) (ds .0) j))
+        (λ j. iq l k v less dk (all-in m c p q r s l k v f less dk (c + 4 ^ m) q (northeast m c p q r s) (ds .1) j))
+        (λ j. ir l k v less dk (all-in m c p q r s l k v f less dk (c + 4 ^ m + 4 ^ m) r (southwest m c p q r s) (ds .2) j))
+        (λ j. is l k v less dk (all-in m c p q r s l k v f less dk (c + 4 ^ m + 4 ^ m + 4 ^ m) s (southeast m c p q r s) (ds .3) j))
         (f .northwest)

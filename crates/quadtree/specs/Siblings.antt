@@ -1,13 +1,13 @@
 -- Four successive blocks that could be one: what cause 7 says, as facts.
 use mathlib.Core.Path.{_≡_, refl, sym, ap, _∙_}
-use mathlib.Core.Bool.{Bool, true, false, false≢true, true≢false}
+use mathlib.Core.Bool.{Bool, true, false, _&&_, false≢true, true≢false}
 use mathlib.Core.List.{List, [], _∷_, _++_}
 use Prim.Native.Nat.{ℕ, suc, _%_, _^_, _<_}
 use lib.Dec.{eqb, ltb}
 use borrow.Author.Tests.{ltb-true, eqb-true, lt-ltb, eq-eqb}
-use Rattle.sequences.specs.Cases.{and-both}
+use Rattle.sequences.specs.Cases.{and-both, both-and}
 use Rattle.quadtree.specs.Blocks.{Block}
-use Rattle.quadtree.specs.Number.{mergeable, siblings}
+use Rattle.quadtree.specs.Number.{fourAlike, fourSiblings, mergeable, siblings}
 
 -- "four successive blocks of equal level below n and equal colour, the first code a multiple of 4^(level+1)" (document 01).
 pub record Mergeable (n : ℕ) (a b c d : Block) : Type 0 where
@@ -20,39 +20,64 @@ pub record Mergeable (n : ℕ) (a b c d : Block) : Type 0 where
   pub colour-c : c .colour ≡ a .colour
   pub colour-d : d .colour ≡ a .colour
 
+four-equal : (a b c d : ℕ) → fourAlike a b c d ≡ true → (b ≡ a) × (c ≡ a) × (d ≡ a)
+unfolding fourAlike
+four-equal a b c d h =
+    let one = and-both (eqb b a) (eqb c a && eqb d a) h in
+    let two = and-both (eqb c a) (eqb d a) (one .1) in
+    (eqb-true b a (one .0), eqb-true c a (two .0), eqb-true d a (two .1))
+
+equal-four : (a b c d : ℕ) → b ≡ a → c ≡ a → d ≡ a → fourAlike a b c d ≡ true
+unfolding fourAlike
+equal-four a b c d eb ec ed = both-and (eqb b a) (eqb c a && eqb d a) (eq-eqb b a eb) (both-and (eqb c a) (eqb d a) (eq-eqb c a ec) (eq-eqb d a ed))
+
+-- The same but for the colours.
+pub record FourSiblings (n : ℕ) (a b c d : Block) : Type 0 where
+  pub below : a .level < n
+  pub multiple : a .code % 4 ^ suc (a .level) ≡ 0
+  pub level-b : b .level ≡ a .level
+  pub level-c : c .level ≡ a .level
+  pub level-d : d .level ≡ a .level
+
+pub siblings-facts : (n : ℕ) (a b c d : Block) → fourSiblings n a b c d ≡ true → FourSiblings n a b c d
+unfolding fourSiblings
+siblings-facts n a b c d h =
+    let one = and-both (ltb (a .level) n) _ h in
+    let two = and-both (eqb (a .code % 4 ^ suc (a .level)) 0) (fourAlike (a .level) (b .level) (c .level) (d .level)) (one .1) in
+    let same = four-equal (a .level) (b .level) (c .level) (d .level) (two .1) in
+    record {
+      below = ltb-true (a .level) n (one .0);
+      multiple = eqb-true (a .code % 4 ^ suc (a .level)) 0 (two .0);
+      level-b = same .0;
+      level-c = same .1;
+      level-d = same .2;
+    }
+
 pub mergeable-facts : (n : ℕ) (a b c d : Block) → mergeable n a b c d ≡ true → Mergeable n a b c d
 unfolding mergeable
 mergeable-facts n a b c d h =
-    let h0 = and-both (ltb (a .level) n) _ h in
-    let h1 = and-both (eqb (a .code % 4 ^ suc (a .level)) 0) _ (h0 .1) in
-    let h2 = and-both (eqb (b .level) (a .level)) _ (h1 .1) in
-    let h3 = and-both (eqb (c .level) (a .level)) _ (h2 .1) in
-    let h4 = and-both (eqb (d .level) (a .level)) _ (h3 .1) in
-    let h5 = and-both (eqb (b .colour) (a .colour)) _ (h4 .1) in
-    let h6 = and-both (eqb (c .colour) (a .colour)) (eqb (d .colour) (a .colour)) (h5 .1) in
+    let parts = and-both (fourSiblings n a b c d) (fourAlike (a .colour) (b .colour) (c .colour) (d .colour)) h in
+    let f = siblings-facts n a b c d (parts .0) in
+    let same = four-equal (a .colour) (b .colour) (c .colour) (d .colour) (parts .1) in
     record {
-      below = ltb-true (a .level) n (h0 .0);
-      multiple = eqb-true (a .code % 4 ^ suc (a .level)) 0 (h1 .0);
-      level-b = eqb-true (b .level) (a .level) (h2 .0);
-      level-c = eqb-true (c .level) (a .level) (h3 .0);
-      level-d = eqb-true (d .level) (a .level) (h4 .0);
-      colour-b = eqb-true (b .colour) (a .colour) (h5 .0);
-      colour-c = eqb-true (c .colour) (a .colour) (h6 .0);
-      colour-d = eqb-true (d .colour) (a .colour) (h6 .1);
+      below = f .below;
+      multiple = f .multiple;
+      level-b = f .level-b;
+      level-c = f .level-c;
+      level-d = f .level-d;
+      colour-b = same .0;
+      colour-c = same .1;
+      colour-d = same .2;
     }
 
 pub facts-mergeable : (n : ℕ) (a b c d : Block) → Mergeable n a b c d → mergeable n a b c d ≡ true
-unfolding mergeable
+unfolding mergeable fourSiblings
 facts-mergeable n a b c d m =
     rw (
       lt-ltb (a .level) n (m .below),
       eq-eqb (a .code % 4 ^ suc (a .level)) 0 (m .multiple),
-      eq-eqb (b .level) (a .level) (m .level-b),
-      eq-eqb (c .level) (a .level) (m .level-c),
-      eq-eqb (d .level) (a .level) (m .level-d),
-      eq-eqb (b .colour) (a .colour) (m .colour-b),
-      eq-eqb (c .colour) (a .colour) (m .colour-c),
-      eq-eqb (d .colour) (a .colour) (m .colour-d),
+      equal-four (a .level) (b .level) (c .level) (d .level) (m .level-b) (m .level-c) (m .level-d),
+      equal-four (a .colour) (b .colour) (c .colour) (d .colour) (m .colour-b) (m .colour-c) (m .colour-d),
     )
 
 -- The two cases of the search.

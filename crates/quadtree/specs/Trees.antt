@@ -61,7 +61,7 @@ flat-some (suc n) c (node p q r s) =
     (omega (arith, flat-some n c p))
 
 -- A square that is one block is a leaf.
-pub one-block-leaf : (n c v : ℕ) (t : Tree n) → flat n c t ≡ block c n v ∷ [] → t ≡ leaf v
+one-block-leaf : (n c v : ℕ) (t : Tree n) → flat n c t ≡ block c n v ∷ [] → t ≡ leaf v
 unfolding flat
 one-block-leaf n c v (leaf w) e = ap leaf (ap (λ (b : Block). b .colour) (head-eq-of-cons-eq e))
 one-block-leaf (suc n) c v (node p q r s) e =

@@ -1,11 +1,11 @@
 -- What the promise says where a caller stands: about the label list, the work list and the count at exit.
-use mathlib.Core.Path.{_≡_, refl, sym, ap, _∙_, subst}
+use mathlib.Core.Path.{_≡_, sym, ap, _∙_}
 use mathlib.Core.Logic.{_↔_}
-use mathlib.Core.List.{List, []}
+use mathlib.Core.List.{List}
 use Prim.Native.Nat.{ℕ, _*_, _^_, _≤_, _<_}
 use native.Mathlib.Omega.{arith}
 use lib.ListN.{length, getD, replicate, length-replicate, getD-replicate}
-use Rattle.sequences.specs.Cases.{when, first-zero, written-accepted, written-refused}
+use Rattle.sequences.specs.Cases.{first-zero, written-accepted, written-refused, count-accepted, count-refused}
 use Rattle.sequences.specs.Over.{over, over-none, over-inside, over-beyond}
 use Rattle.sequences.specs.Ranges.{tabulate, tabulate-from}
 use Rattle.quadtree.specs.Blocks.{Block, blocks, paint}
@@ -17,9 +17,9 @@ use Rattle.components.specs.Numbers.{numbers, labels, regions}
 use Rattle.components.specs.Numbered.{ByLeastCodes, length-numbers, numbers-by-least-codes}
 use Rattle.components.specs.Holders.{blockAt, holder, pixel-held}
 use Rattle.components.specs.Labels.{length-labels, label-of-pixel, accepted-labels-equal-exactly-when-joined}
-use Rattle.components.specs.Walk.{count}
+use Rattle.components.specs.Walk.{block-count}
 use Rattle.regions.specs.declared.Numbered.{Numbered}
-use Rattle.regions.specs.Promise.{numberingNumber, labelsWritten, zerosWritten, regionsCounted, count-accepted, count-refused, Numbering, none}
+use Rattle.regions.specs.Promise.{numberingNumber, labelsWritten, zerosWritten, regionsCounted, Numbering, none}
 
 -- The label of the block that holds the pixel c.
 unfoldable pub labelOfPixel : List Block → List ℕ → ℕ → ℕ
@@ -79,7 +79,7 @@ module _ {n : ℕ} {cs ls ks labels₀ work₀ labels₁ work₁ : List ℕ} {r 
         ∙ count-accepted (numberingNumber n cs ls ks labels₀ work₀) (regions n (paint (blocks cs ls ks))) zero-number
 
     size : length (labels n (blocks cs ls ks)) ≡ length cs
-    size = length-labels n (blocks cs ls ks) ∙ count passes
+    size = length-labels n (blocks cs ls ks) ∙ block-count passes
 
     -- Each block has its region number at its place, and what lies beyond the blocks is as it was.
     pub label-at-exit : (i : ℕ) → i < length cs → getD labels₁ i 0 ≡ getD (labels n (blocks cs ls ks)) i 0
@@ -107,7 +107,7 @@ module _ {n : ℕ} {cs ls ks labels₀ work₀ labels₁ work₁ : List ℕ} {r 
         → (getD labels₁ i 0 ≡ getD labels₁ j 0) ↔ Joined n (paint (blocks cs ls ks)) c d
     labels-equal-exactly-when-joined i j c d a b v w =
         let both =
-        accepted-labels-equal-exactly-when-joined n cs ls ks list-accepted i j c d (omega (arith, count passes)) (omega (arith, count passes)) v w in (
+        accepted-labels-equal-exactly-when-joined n cs ls ks list-accepted i j c d (omega (arith, block-count passes)) (omega (arith, block-count passes)) v w in (
           λ e. both .0 (sym (label-at-exit i a) ∙ e ∙ label-at-exit j b),
           λ q. label-at-exit i a ∙ both .1 q ∙ sym (label-at-exit j b),
         )
@@ -120,7 +120,7 @@ module _ {n : ℕ} {cs ls ks labels₀ work₀ labels₁ work₁ : List ℕ} {r 
         at : (c : ℕ) → c < 4 ^ n → getD labels₁ (holder (blocks cs ls ks) c) 0 ≡ getD (numbers n (paint (blocks cs ls ks))) c 0
         at c h =
             let held = pixel-held n (blocks cs ls ks) (passes .covering) c h in
-            label-at-exit (holder (blocks cs ls ks) c) (omega (arith, held .place, count passes)) ∙ label-of-pixel n (blocks cs ls ks) (passes .covering) c h
+            label-at-exit (holder (blocks cs ls ks) c) (omega (arith, held .place, block-count passes)) ∙ label-of-pixel n (blocks cs ls ks) (passes .covering) c h
 
     -- "Region numbers are 0, 1, 2, .. by each region's least location code. No number is given to two regions of one image": so are the
     -- labels of the pixels' blocks, below the count at exit.

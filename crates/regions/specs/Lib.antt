@@ -1,5 +1,5 @@
 -- What the numbering of regions promises, and the laws its loops follow.
-pub mod Sides
+pub mod BorderSpans
 pub mod Walk
 pub mod Promise
 pub mod Labelling

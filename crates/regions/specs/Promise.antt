@@ -1,13 +1,13 @@
 -- What the numbering of regions promises: the answer, and the later content of the label list and of the work list.
-use mathlib.Core.Path.{_≡_, refl, sym, ap, ap₂, _∙_}
-use mathlib.Core.Bool.{Bool, true, false, _||_}
+use mathlib.Core.Path.{_≡_, sym, ap, ap₂, _∙_}
+use mathlib.Core.Bool.{Bool, _||_}
 use mathlib.Core.List.{List, []}
-use Prim.Native.Nat.{ℕ, zero, suc, _*_, _^_, _≤_, _<_}
+use Prim.Native.Nat.{ℕ, _*_, _^_, _≤_, _<_}
 use native.Mathlib.Omega.{arith}
 use lib.ListN.{length, replicate}
 use lib.Dec.{ltb}
 use borrow.Author.Tests.{lt-ltb, le-ltb}
-use Rattle.sequences.specs.Cases.{first, when, ifAccepted, first-some, first-none, when-yes, when-no, or-right, written-accepted, written-refused}
+use Rattle.sequences.specs.Cases.{when, ifAccepted, first-some, first-none, when-yes, when-no, or-right, written-accepted, written-refused, countIfAccepted, count-accepted, count-refused}
 use Rattle.sequences.specs.Over.{over, over-none}
 use Rattle.quadtree.specs.Blocks.{blocks, paint}
 use Rattle.quadtree.specs.Number.{number, numberWith}
@@ -19,11 +19,6 @@ use Rattle.regions.specs.declared.Numbered.{Numbered}
 unfoldable pub numberingNumber : ℕ → List ℕ → List ℕ → List ℕ → List ℕ → List ℕ → ℕ
 unfolding numberWith
 numberingNumber n cs ls ks labels₀ work₀ = numberWith (ltb (length labels₀) (length cs) || ltb (length work₀) (2 * 4 ^ n)) n cs ls ks
-
--- A count where the number is 0; a refusal returns "number, counts 0".
-unfoldable pub countIfAccepted : ℕ → ℕ → ℕ
-countIfAccepted zero count = count
-countIfAccepted (suc k) count = 0
 
 -- The labels written: "each block's region number at its place in the label list"; none on a refusal.
 unfoldable pub labelsWritten : ℕ → List ℕ → List ℕ → List ℕ → List ℕ → List ℕ → List ℕ
@@ -45,15 +40,6 @@ pub record Numbering (n : ℕ) (cs ls ks labels₀ work₀ labels₁ work₁ : L
   pub answer : r ≡ record { number = numberingNumber n cs ls ks labels₀ work₀; regions = regionsCounted n cs ls ks labels₀ work₀ }
   pub in-labels : labels₁ ≡ over (labelsWritten n cs ls ks labels₀ work₀) labels₀
   pub in-work : work₁ ≡ over (zerosWritten n cs ls ks labels₀ work₀) work₀
-
-pub count-accepted : (k count : ℕ) → k ≡ 0 → countIfAccepted k count ≡ count
-unfolding countIfAccepted
-count-accepted k count h = ap (λ (i : ℕ). countIfAccepted i count) h
-
-pub count-refused : (k count : ℕ) → 0 < k → countIfAccepted k count ≡ 0
-unfolding countIfAccepted
-count-refused zero count h = absurd (omega arith)
-count-refused (suc k) count h = refl
 
 -- ---- cause by cause
 

@@ -2,10 +2,8 @@
 // turns roots into numbers.
 ghost use mathlib.Core.Path.{_≡_};
 ghost use Rattle.regions.specs.Promise.{Numbering};
-ghost use Rattle.regions.specs.Labelling.{Numberable, Labelled};
+ghost use Rattle.regions.specs.Labelling.{Numberable, LabelsFound};
 
-mod forest;
-mod numbering;
 mod walk;
 
 // The number of an answer, 0 for acceptance, and how many regions there are.
@@ -27,20 +25,21 @@ fn refused(number: u32) -> Numbered
 // Numbers the regions of an accepted list: in the label list, one entry a block, first parents, then numbers.
 fn label(
     n: u32,
+    need: usize,
     codes: &[u32],
     levels: &[u8],
     colours: &[u8],
     labels: &mut [u32],
     work: &mut [u32],
-    need: usize,
 ) -> u32
-    requires { ⌜ Numberable n (now codes) (now levels) (now colours) (now labels) (now work) need ⌝ }
-    ensures { λ r. ⌜ Labelled n (now (codes .entry)) (now (levels .entry)) (now (colours .entry)) (now (work .entry)) (now (labels .exit)) (now (work .exit)) r ⌝ }
+    requires { ⌜ Numberable n need (now codes) (now levels) (now colours) (now labels) (now work) ⌝ }
+    ensures { λ r. ⌜ LabelsFound n (now (codes .entry)) (now (levels .entry)) (now (colours .entry))
+        (now (work .entry)) (now (labels .exit)) (now (work .exit)) r ⌝ }
 {
-    forest::own_parents(labels);
+    unionfind::own_parents(labels);
     walk::walk(n, codes, levels, colours, labels, work);
-    walk::fill(work, 0, need, 0);
-    numbering::number_all(labels)
+    filling::fill(work, 0, need, 0);
+    unionfind::number_all(labels)
 }
 
 // The region number of each block, and how many regions there are.
@@ -52,7 +51,8 @@ pub fn number(
     labels: &mut [u32],
     work: &mut [u32],
 ) -> Numbered
-    ensures { λ r. ⌜ Numbering n (now (codes .entry)) (now (levels .entry)) (now (colours .entry)) (now (labels .entry)) (now (work .entry)) (now (labels .exit)) (now (work .exit)) r ⌝ }
+    ensures { λ r. ⌜ Numbering n (now (codes .entry)) (now (levels .entry)) (now (colours .entry))
+        (now (labels .entry)) (now (work .entry)) (now (labels .exit)) (now (work .exit)) r ⌝ }
 {
     let fault = blocks::check(n, codes, levels, colours);
     if fault != 0 {
@@ -62,20 +62,20 @@ pub fn number(
         return refused(8);
     }
     let need = 2 * location::pixels(n);
-    if work.len() < need {
-        return refused(8);
+    if need <= work.len() {
+        let regions = label(
+            n,
+            need,
+            codes,
+            levels,
+            colours,
+            &mut labels[..codes.len()],
+            work,
+        );
+        return Numbered {
+            number: 0,
+            regions: regions,
+        };
     }
-    let regions = label(
-        n,
-        codes,
-        levels,
-        colours,
-        &mut labels[..codes.len()],
-        work,
-        need,
-    );
-    Numbered {
-        number: 0,
-        regions: regions,
-    }
+    refused(8)
 }

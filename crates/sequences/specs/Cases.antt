@@ -93,3 +93,17 @@ pub written-refused {ℓ} : {A : Type ℓ} (number : ℕ) (written : List A) →
 unfolding ifAccepted
 written-refused zero written h = absurd (omega arith)
 written-refused (suc k) written h = refl
+
+-- A count where the number is 0; a refusal returns "number, counts 0".
+unfoldable pub countIfAccepted : ℕ → ℕ → ℕ
+countIfAccepted zero count = count
+countIfAccepted (suc k) count = 0
+
+pub count-accepted : (k count : ℕ) → k ≡ 0 → countIfAccepted k count ≡ count
+unfolding countIfAccepted
+count-accepted k count h = ap (λ (i : ℕ). countIfAccepted i count) h
+
+pub count-refused : (k count : ℕ) → 0 < k → countIfAccepted k count ≡ 0
+unfolding countIfAccepted
+count-refused zero count h = absurd (omega arith)
+count-refused (suc k) count h = refl

@@ -1,7 +1,9 @@
 -- Lists and numbers.
 pub mod Over
 pub mod Tails
+pub mod Maps
 pub mod Ranges
 pub mod Powers
 pub mod Induction
 pub mod Cases
+pub mod Fill

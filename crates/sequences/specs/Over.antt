@@ -3,7 +3,7 @@ use mathlib.Core.Path.{_≡_, refl, sym, ap, _∙_}
 use mathlib.Core.List.{List, [], _∷_, _++_, append-assoc}
 use Prim.Native.Nat.{ℕ, _+_, _-_, _≤_, _<_}
 use native.Mathlib.Omega.{arith}
-use lib.ListN.{length, take, drop, set, getD, replicate, length-append, length-drop, List·getD-append, replicate-append-replicate}
+use lib.ListN.{length, take, drop, set, getD, length-append, length-drop, List·getD-append}
 use lib.Seq.{drop-drop, take-at, drop-at, getD-append-add, getD-drop}
 
 -- The list `old` with `new` in the place of its first entries; what lies beyond is unchanged.
@@ -54,6 +54,3 @@ over-beyond new old i h =
 pub take-over : (new old : List ℕ) → take (length new) (over new old) ≡ new
 unfolding over
 take-over new old = take-at new (drop (length new) old) (length new) refl
-
-pub replicate-one-more : (n v : ℕ) → replicate (n + 1) v ≡ replicate n v ++ (v ∷ [])
-replicate-one-more n v = sym (replicate-append-replicate n 1 v)

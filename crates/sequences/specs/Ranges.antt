@@ -1,10 +1,11 @@
 -- Successive numbers as a list, and lists made by a rule from their places.
 use mathlib.Core.Path.{_≡_, refl, sym, ap, _∙_}
 use mathlib.Core.List.{List, [], _∷_, _++_, map}
-use Prim.Native.Nat.{ℕ, zero, suc, _+_, _≤_, _<_}
+use Prim.Native.Nat.{ℕ, zero, suc, _+_, _<_}
 use native.Mathlib.Omega.{arith}
 use lib.ListN.{length, getD, length-map}
 use lib.Seq.{ext-getD}
+use Rattle.sequences.specs.Maps.{getD-map}
 
 -- The k numbers from a on.
 unfoldable pub range : ℕ → ℕ → List ℕ
@@ -42,17 +43,9 @@ pub length-tabulate : (k : ℕ) (rule : ℕ → ℕ) → length (tabulate k rule
 unfolding tabulate
 length-tabulate k rule = length-map (range 0 k) rule ∙ length-range 0 k
 
-map-range-at : (rule : ℕ → ℕ) (a k i : ℕ) → i < k → getD (map rule (range a k)) i 0 ≡ rule (a + i)
-unfolding range
-map-range-at rule a zero i h = absurd (omega arith)
-map-range-at rule a (suc k) zero h = ap rule (omega arith)
-map-range-at rule a (suc k) (suc i) h =
-    let e : suc a + i ≡ a + suc i = omega arith in
-    map-range-at rule (suc a) k i (omega arith) ∙ ap rule e
-
 pub tabulate-at : (k : ℕ) (rule : ℕ → ℕ) (i : ℕ) → i < k → getD (tabulate k rule) i 0 ≡ rule i
 unfolding tabulate
-tabulate-at k rule i h = map-range-at rule 0 k i h ∙ ap rule (omega arith)
+tabulate-at k rule i h = getD-map rule (range 0 k) i 0 0 (omega (arith, length-range 0 k)) ∙ ap rule (range-at 0 k i h ∙ omega arith)
 
 -- A list is made by the rule that its entries follow.
 pub tabulate-from : (k : ℕ) (rule : ℕ → ℕ) (l : List ℕ) → length l ≡ k → ((i : ℕ) → i < k → getD l i 0 ≡ rule i) → l ≡ tabulate k rule

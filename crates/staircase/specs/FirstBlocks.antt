@@ -1,20 +1,19 @@
 -- The pixels of the first k blocks of an accepted list, and the staircase that they form.
 use mathlib.Core.Path.{_≡_, refl, sym, ap, _∙_, subst}
 use mathlib.Core.Logic.{_⊎_, inl, inr, _↔_, _≢_}
-use mathlib.Core.Bool.{Bool, true, false, not, _&&_, _||_}
+use mathlib.Core.Bool.{true, not, _&&_}
 use mathlib.Core.List.{List, [], _∷_, List·Memᴰ, List·Memᴰ·head, List·Memᴰ·tail, List·Memᴰ·cases-cons, List·Memᴰ·not-nil}
 use Prim.Native.Nat.{ℕ, zero, suc, _+_, _%_, _^_, _≤_, _<_}
 use native.Mathlib.Decide.{decLt}
 use native.Mathlib.Omega.{arith}
 use lib.Dec.{ltb, eqb}
 use lib.ListN.{length, take, getD}
-use lib.Seq.{take-length}
-use borrow.Author.Tests.{ltb-false, eqb-true, eqb-false}
 use Rattle.sequences.specs.Cases.{first, when, first-zero}
 use Rattle.location.specs.Codes.{code}
 use Rattle.location.specs.Squares.{square-in-image}
 use Rattle.quadtree.specs.Blocks.{Block, blocks, pixels}
-use Rattle.quadtree.specs.Number.{cover, siblings, number}
+use Rattle.quadtree.specs.Number.{faultOf, cover, siblings, number}
+use Rattle.quadtree.specs.Covering.{cover-first, cover-zero-end, no-fault}
 use Rattle.staircase.specs.Staircase.{done, done-west, done-north, done-inside, pixel-done, code-grows, staircase, DonePixel}
 
 -- The code c is one of a block's pixels: they have the codes from the block's own on, 4^level in all.
@@ -37,29 +36,10 @@ record Next (n sum : ℕ) (b : Block) (bs : List Block) : Type 0 where
   rest : cover n (sum + 4 ^ b .level) bs ≡ 0
 
 next-block : (n sum : ℕ) (b : Block) (bs : List Block) → cover n sum (b ∷ bs) ≡ 0 → Next n sum b bs
-unfolding cover
-next-block n sum b bs = pick (ltb n (b .level)) (eqb (b .code) sum) (eqb sum (4 ^ n)) (eqb (b .code % 4 ^ b .level) 0) refl refl refl refl
-  where
-    asked : Bool → Bool → Bool → Bool → ℕ
-    asked t u v w =
-        elim t [
-          | true ↦ 3
-          | false ↦ elim (not u || v) [ true ↦ 4 | false ↦ elim w [ true ↦ cover n (sum + 4 ^ b .level) bs | false ↦ 5 ] ]
-        ]
-
-    pick : (t u v w : Bool) → ltb n (b .level) ≡ t → eqb (b .code) sum ≡ u → eqb sum (4 ^ n) ≡ v → eqb (b .code % 4 ^ b .level) 0 ≡ w → asked t u v w ≡ 0 → Next n sum b bs
-    pick true u v w e f g m h = absurd (omega arith)
-    pick false false v w e f g m h = absurd (omega arith)
-    pick false true true w e f g m h = absurd (omega arith)
-    pick false true false false e f g m h = absurd (omega arith)
-    pick false true false true e f g m h =
-        record {
-          low = ltb-false n (b .level) e;
-          here = eqb-true (b .code) sum f;
-          short = eqb-false sum (4 ^ n) g;
-          multiple = eqb-true (b .code % 4 ^ b .level) 0 m;
-          rest = h;
-        }
+next-block n sum b bs h =
+    let parts = first-zero (faultOf n sum (b .code) (b .level)) (cover n (sum + 4 ^ b .level) bs) (sym (cover-first n sum b bs) ∙ h) in
+    let none = no-fault n sum (b .code) (b .level) (parts .0) in
+    record { low = none .low; here = none .here; short = none .short; multiple = none .multiple; rest = parts .1 }
 
 -- Blocks one after the other from the code `sum` on: their pixels are the codes from there on.
 in-blocks : (n k sum : ℕ) (bs : List Block) (c : ℕ) → cover n sum bs ≡ 0 → InOneOf (take k bs) c → (sum ≤ c) × (c < sum + pixels (take k bs))
@@ -136,28 +116,14 @@ pixels-one-more (suc k) (b ∷ bs) z l = omega (arith, pixels-one-more k bs z (o
 
 -- All blocks together are the whole image.
 all-from : (n sum : ℕ) (bs : List Block) → sum ≤ 4 ^ n → cover n sum bs ≡ 0 → sum + pixels bs ≡ 4 ^ n
-unfolding pixels cover
-all-from n sum [] most h = pick (ltb sum (4 ^ n)) refl h
-  where
-    asked : Bool → ℕ
-    asked t = elim t [ true ↦ 6 | false ↦ 0 ]
-
-    pick : (t : Bool) → ltb sum (4 ^ n) ≡ t → asked t ≡ 0 → sum + 0 ≡ 4 ^ n
-    pick true e h = absurd (omega arith)
-    pick false e h = omega (arith, ltb-false sum (4 ^ n) e)
+unfolding pixels
+all-from n sum [] most h = omega (arith, cover-zero-end n sum most h)
 all-from n sum (b ∷ bs) most h =
     let next = next-block n sum b bs h in
     omega (arith, all-from n (sum + 4 ^ b .level) bs (placed-fits n sum b (placed n sum b bs most next)) (next .rest))
 
 pub all-pixels : (n : ℕ) (bs : List Block) → cover n 0 bs ≡ 0 → pixels bs ≡ 4 ^ n
 all-pixels n bs h = omega (arith, all-from n 0 bs (omega arith) h)
-
--- Before the first block no pixel is done, after the last block every pixel is.
-pub none-done-first : (bs : List Block) (c : ℕ) → ¬ InOneOf (take 0 bs) c
-none-done-first bs c i = List·Memᴰ·not-nil (i .listed)
-
-pub all-done-last : (n : ℕ) (bs : List Block) (c : ℕ) → cover n 0 bs ≡ 0 → c < 4 ^ n → InOneOf (take (length bs) bs) c
-all-done-last n bs c h l = in-first-blocks n (length bs) bs c h .1 (omega (arith, all-pixels n bs h, ap pixels (take-length bs)))
 
 pub accepted-covers : (n : ℕ) (codes levels colours : List ℕ) → number n codes levels colours ≡ 0 → cover n 0 (blocks codes levels colours) ≡ 0
 unfolding number

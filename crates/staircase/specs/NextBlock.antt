@@ -9,7 +9,7 @@ use borrow.Author.Tests.{lt-ltb, le-ltb}
 use Rattle.sequences.specs.Powers.{pow2-pos}
 use Rattle.location.specs.Codes.{code, column, row}
 use Rattle.location.specs.Interleaving.{code-grows-in-x, code-grows-in-y, column-below, row-below}
-use Rattle.location.specs.Squares.{block-is-square, square-in-image}
+use Rattle.location.specs.Squares.{block-is-square, pixel-in-block, square-in-image}
 use Rattle.staircase.specs.Staircase.{done, done-west, done-north, done-east, done-south, done-pixel}
 use Rattle.staircase.specs.Rows.{doneInRow, doneInColumn, row-end, column-end, row-is, column-is}
 
@@ -27,9 +27,7 @@ pub record InRows (n l d y : ℕ) : Type 0 where
 module _ (n l d : ℕ) (level : l ≤ n) (room : d < 4 ^ n) (multiple : d % 4 ^ l ≡ 0) where
   -- Codes of the block and pixels of its square are one.
   in-square : (x y : ℕ) → InColumns n l d x → InRows n l d y → (d ≤ code n x y) × (code n x y < d + 4 ^ l)
-  in-square x y c r =
-      block-is-square n l d level room multiple x y (omega (arith, square-in-image n l d level room multiple)) (omega (arith, square-in-image n l d level room multiple)) .1
-      (c .fromWest, c .toEast, r .fromNorth, r .toSouth)
+  in-square x y c r = pixel-in-block n l d level room multiple x y (c .fromWest) (c .toEast) (r .fromNorth) (r .toSouth)
 
   off-square : (x y : ℕ) → x < 2 ^ n → y < 2 ^ n → ¬ (InColumns n l d x × InRows n l d y) → code n x y < d + 4 ^ l → code n x y < d
   off-square x y a b off h = pick (decLt (code n x y) d)

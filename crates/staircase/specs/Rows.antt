@@ -3,72 +3,58 @@ use mathlib.Core.Path.{_≡_, refl, sym, ap, _∙_}
 use mathlib.Core.Logic.{_↔_}
 use mathlib.Core.Bool.{Bool, true, false}
 use Prim.Native.Nat.{ℕ, zero, suc, _^_, _≤_, _<_}
-use native.Mathlib.Decide.{decLe}
 use native.Mathlib.Omega.{arith}
-use lib.Dec.{leb}
-use borrow.Author.Tests.{le-leb, lt-leb}
 use Rattle.staircase.specs.Staircase.{done, done-west, done-north, done-east, done-south, staircase}
 use Rattle.staircase.specs.Edges.{eastFrom, northFrom, Border}
-use Rattle.staircase.specs.Walk.{not-both, border-east, border-north, east-apart, north-apart, one-place-in-row, one-place-in-column}
+use Rattle.staircase.specs.Walk.{border-east, border-north, east-apart, north-apart, one-place-in-row, one-place-in-column}
 use Rattle.staircase.specs.Border.{done-is-stairs}
 
 -- How many of the numbers below w pass a test.
-unfoldable pub count : ℕ → (ℕ → Bool) → ℕ
-count zero test = 0
-count (suc w) test = elim (test w) [ true ↦ suc (count w test) | false ↦ count w test ]
+unfoldable pub countTrue : ℕ → (ℕ → Bool) → ℕ
+countTrue zero test = 0
+countTrue (suc w) test = elim (test w) [ true ↦ suc (countTrue w test) | false ↦ countTrue w test ]
 
-count-yes : (w : ℕ) (test : ℕ → Bool) → test w ≡ true → count (suc w) test ≡ suc (count w test)
-unfolding count
-count-yes w test h = rw (h, count)
+count-yes : (w : ℕ) (test : ℕ → Bool) → test w ≡ true → countTrue (suc w) test ≡ suc (countTrue w test)
+unfolding countTrue
+count-yes w test h = rw (h, countTrue)
 
-count-no : (w : ℕ) (test : ℕ → Bool) → test w ≡ false → count (suc w) test ≡ count w test
-unfolding count
-count-no w test h = rw (h, count)
+count-no : (w : ℕ) (test : ℕ → Bool) → test w ≡ false → countTrue (suc w) test ≡ countTrue w test
+unfolding countTrue
+count-no w test h = rw (h, countTrue)
 
-pub count-most : (w : ℕ) (test : ℕ → Bool) → count w test ≤ w
-unfolding count
+pub count-most : (w : ℕ) (test : ℕ → Bool) → countTrue w test ≤ w
+unfolding countTrue
 count-most zero test = omega arith
 count-most (suc w) test = pick (count-most w test) (test w) refl
   where
-    pick : count w test ≤ w → (t : Bool) → test w ≡ t → count (suc w) test ≤ suc w
+    pick : countTrue w test ≤ w → (t : Bool) → test w ≡ t → countTrue (suc w) test ≤ suc w
     pick ih true h = omega (arith, count-yes w test h)
     pick ih false h = omega (arith, count-no w test h)
 
 -- A line of cells 0, 1, .. of which the first ones are done: cell 0, and of those from 1 to w as many as are counted.
 module _ (line : ℕ → Bool) (closed : (i j : ℕ) → j ≤ i → line i ≡ true → line j ≡ true) where
-  count-all : (w : ℕ) → line w ≡ true → count w (λ i. line (suc i)) ≡ w
-  unfolding count
+  count-all : (w : ℕ) → line w ≡ true → countTrue w (λ i. line (suc i)) ≡ w
+  unfolding countTrue
   count-all zero h = refl
   count-all (suc w) h = count-yes w (λ i. line (suc i)) h ∙ ap suc (count-all w (closed (suc w) w (omega arith) h))
 
-  count-is-last : (w : ℕ) → line 0 ≡ true → line (suc w) ≡ false → (line (count w (λ i. line (suc i))) ≡ true) × (line (suc (count w (λ i. line (suc i)))) ≡ false)
-  unfolding count
+  count-is-last : (w : ℕ) → line 0 ≡ true → line (suc w) ≡ false → (line (countTrue w (λ i. line (suc i))) ≡ true) × (line (suc (countTrue w (λ i. line (suc i)))) ≡ false)
+  unfolding countTrue
   count-is-last zero first last = (first, last)
   count-is-last (suc w) first last = pick (count-is-last w first) (line (suc w)) refl
     where
-      pick : (line (suc w) ≡ false → (line (count w (λ i. line (suc i))) ≡ true) × (line (suc (count w (λ i. line (suc i)))) ≡ false))
+      pick : (line (suc w) ≡ false → (line (countTrue w (λ i. line (suc i))) ≡ true) × (line (suc (countTrue w (λ i. line (suc i)))) ≡ false))
           → (t : Bool) → line (suc w) ≡ t
-          → (line (count (suc w) (λ i. line (suc i))) ≡ true) × (line (suc (count (suc w) (λ i. line (suc i)))) ≡ false)
+          → (line (countTrue (suc w) (λ i. line (suc i))) ≡ true) × (line (suc (countTrue (suc w) (λ i. line (suc i)))) ≡ false)
       pick ih true h = rw (count-yes w (λ i. line (suc i)) h, count-all w (closed (suc w) w (omega arith) h)) (h, last)
       pick ih false h = rw (count-no w (λ i. line (suc i)) h) (ih h)
 
-  line-test : (c : ℕ) → line c ≡ true → line (suc c) ≡ false → (i : ℕ) → line i ≡ leb i c
-  line-test c inside outside i = pick (decLe i c)
-    where
-      beyond-c : (t : Bool) → c < i → line i ≡ t → line i ≡ false
-      beyond-c true l e = absurd (not-both (closed i (suc c) l e) outside)
-      beyond-c false l e = e
-
-      pick : Dec (i ≤ c) → line i ≡ leb i c
-      pick (yes l) = closed c i l inside ∙ sym (le-leb i c l)
-      pick (no g) = beyond-c (line i) (omega arith) refl ∙ sym (lt-leb i c (omega arith))
-
 -- The number of pixels done in row y, and in column x.
 unfoldable pub doneInRow : ℕ → ℕ → ℕ → ℕ
-doneInRow n d y = count (2 ^ n) (λ x. done n d (suc x) (suc y))
+doneInRow n d y = countTrue (2 ^ n) (λ x. done n d (suc x) (suc y))
 
 unfoldable pub doneInColumn : ℕ → ℕ → ℕ → ℕ
-doneInColumn n d x = count (2 ^ n) (λ y. done n d (suc x) (suc y))
+doneInColumn n d x = countTrue (2 ^ n) (λ y. done n d (suc x) (suc y))
 
 module _ (n d : ℕ) where
   -- The row y is done up to that many pixels, and no further; the margin cell before it is done.
@@ -91,15 +77,6 @@ module _ (n d : ℕ) where
   pub column-most : (x : ℕ) → doneInColumn n d x ≤ 2 ^ n
   unfolding doneInColumn
   column-most x = count-most (2 ^ n) (λ y. done n d (suc x) (suc y))
-
-  -- A cell of the row y is done exactly when it is not past them.
-  pub row-test : (y column : ℕ) → done n d column (suc y) ≡ leb column (doneInRow n d y)
-  row-test y column =
-      line-test (λ x. done n d x (suc y)) (λ i j l h. staircase n d i (suc y) j (suc y) l (omega arith) h) (doneInRow n d y) (row-end y .0) (row-end y .1) column
-
-  pub column-test : (x row : ℕ) → done n d (suc x) row ≡ leb row (doneInColumn n d x)
-  column-test x row =
-      line-test (λ y. done n d (suc x) y) (λ i j l h. staircase n d (suc x) i (suc x) j (omega arith) l h) (doneInColumn n d x) (column-end x .0) (column-end x .1) row
 
   -- The number of pixels done in a row is told by one place between done and not done.
   pub row-is : (y x : ℕ) → done n d x (suc y) ≡ true → done n d (suc x) (suc y) ≡ false → doneInRow n d y ≡ x

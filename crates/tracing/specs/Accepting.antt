@@ -6,7 +6,7 @@ use Prim.Native.Nat.{ℕ, _*_, _^_, _≤_}
 use native.Mathlib.Omega.{arith}
 use lib.ListN.{length, getD, replicate, length-replicate, getD-replicate}
 use lib.Dec.{ltb}
-use Rattle.sequences.specs.Cases.{written-accepted}
+use Rattle.sequences.specs.Cases.{written-accepted, count-accepted}
 use Rattle.sequences.specs.Over.{over, length-over, over-inside}
 use Rattle.sequences.specs.Powers.{pow4-mono}
 use Rattle.quadtree.specs.Blocks.{blocks, paint}
@@ -14,7 +14,7 @@ use Rattle.quadtree.specs.Number.{numberWith}
 use Rattle.quadtree.specs.Accepted.{number-zero}
 use Rattle.components.specs.Numbers.{numbers, labels, regions}
 use Rattle.components.specs.Numbered.{number-below-regions}
-use Rattle.regions.specs.Promise.{Numbering, numberingNumber, labelsWritten, zerosWritten, regionsCounted, count-accepted}
+use Rattle.regions.specs.Promise.{Numbering, numberingNumber, labelsWritten, zerosWritten, regionsCounted}
 use Rattle.regions.specs.Callers.{refusal-leaves-all}
 use Rattle.regions.specs.declared.Numbered.{Numbered}
 use Rattle.grid.specs.Listing.{Cycle, listing, owners, ends, allCorners, cycleCount, cornerCount}
@@ -22,10 +22,11 @@ use Rattle.grid.specs.Bounds.{cycles-fit, corner-count-fits}
 use Rattle.links.specs.OverTwice.{over-twice}
 use Rattle.links.specs.FirstCycles.{all-regions}
 use Rattle.links.specs.Relabelled.{labels-room, relabelled, relabelled-paints, few-regions}
-use Rattle.tracing.specs.Outlining.{OutlinesAsked, OutlinesTold}
+use Rattle.listing.specs.Progress.{state, noneCounted}
+use Rattle.tracing.specs.Outlining.{Outlinable, Outlined}
 use Rattle.tracing.specs.Tracing.{Lent, lent, tooShort, tracingNumber, outlinesOf, cyclesWritten, labelsLeft, zerosLeft, regionsListed, Tracing, Needs, needs-met, refused}
 use Rattle.tracing.specs.declared.Traced.{Traced}
-use Rattle.tracing.specs.declared.listing.Counts.{Counts}
+use Rattle.listing.specs.declared.Counts.{Counts}
 
 -- Three tests that fail, the first two of them.
 first-two : (a b c : Bool) → a || (b || c) ≡ false → a || b ≡ false
@@ -33,7 +34,7 @@ first-two true b c h = h
 first-two false true c h = h
 first-two false false c h = refl
 
-module _ (n : ℕ) (cs ls ks : List ℕ) (b : Lent) {short : Bool} (tested : short ≡ tooShort n (length cs) b) (enough : short ≡ false)
+module _ {n : ℕ} {cs ls ks : List ℕ} (b : Lent) {short : Bool} (tested : short ≡ tooShort n (length cs) b) (enough : short ≡ false)
     {labels₁ work₁ : List ℕ} {numbered : Numbered} (done : Numbering n cs ls ks (b .labelList) (b .workList) labels₁ work₁ numbered) where
   -- Where no list is too short the two numbers are one.
   same-number : numberingNumber n cs ls ks (b .labelList) (b .workList) ≡ tracingNumber n cs ls ks b
@@ -85,9 +86,9 @@ module _ (n : ℕ) (cs ls ks : List ℕ) (b : Lent) {short : Bool} (tested : sho
     zeros-long : length {A = ℕ} (replicate (2 * 4 ^ n) 0) ≡ 2 * 4 ^ n
     zeros-long = length-replicate (2 * 4 ^ n) 0
 
-    pub outlines-asked : OutlinesAsked n cs ls labels₁ work₁ (b .ownerList) (b .endList) (b .cornerList)
-    outlines-asked =
-        subst (λ (l : List ℕ). OutlinesAsked n cs ls l work₁ (b .ownerList) (b .endList) (b .cornerList)) (sym labels-are)
+    pub outlinable : Outlinable n cs ls labels₁ (state work₁ (b .ownerList) (b .endList) (b .cornerList) noneCounted)
+    outlinable =
+        subst (λ (l : List ℕ). Outlinable n cs ls l (state work₁ (b .ownerList) (b .endList) (b .cornerList) noneCounted)) (sym labels-are)
         (record {
           labelled = relabelled n cs ls ks (met .accepted) (b .labelList) (met .for-labels);
           equal = number-zero n cs ls ks (met .accepted) .equal-levels;
@@ -97,15 +98,18 @@ module _ (n : ℕ) (cs ls ks : List ℕ) (b : Lent) {short : Bool} (tested : sho
               ∙ over-inside (replicate (2 * 4 ^ n) 0) (b .workList) j (omega (arith, zeros-long)) ∙ getD-replicate (2 * 4 ^ n) j 0 0 h;
           for-work =
               omega (arith, ap length work-is, length-over (replicate (2 * 4 ^ n) 0) (b .workList) (omega (arith, zeros-long, met .for-work)), met .for-work);
-          for-owners = met .for-owners;
-          for-ends = met .for-ends;
-          for-corners = met .for-corners;
+          room = record {
+            small = number-zero n cs ls ks (met .accepted) .small;
+            for-owners = met .for-owners;
+            for-ends = met .for-ends;
+            for-corners = met .for-corners;
+          };
         })
 
     -- ---- after the listing
 
     module _ {work₂ owners₂ ends₂ corners₂ : List ℕ} {counts : Counts}
-        (told : OutlinesTold n cs ls labels₁ work₁ (b .ownerList) (b .endList) (b .cornerList) work₂ owners₂ ends₂ corners₂ counts) where
+        (outlined : Outlined n (blocks cs ls labels₁) (state work₁ (b .ownerList) (b .endList) (b .cornerList) noneCounted) (state work₂ owners₂ ends₂ corners₂ counts)) where
       cycles-are : listing n (paint (blocks cs ls labels₁)) (4 ^ n) ≡ outlinesOf n cs ls ks
       unfolding outlinesOf
       cycles-are =
@@ -117,13 +121,11 @@ module _ (n : ℕ) (cs ls ks : List ℕ) (b : Lent) {short : Bool} (tested : sho
       small : 4 ^ n ≤ 65536
       small = pow4-mono (number-zero n cs ls ks (met .accepted) .small)
 
-      pub cycles-small : counts .cycles ≤ 65536
-      cycles-small =
-          omega (arith, told .cycles, cycles-fit n (paint (blocks cs ls labels₁)) (4 ^ n), small)
-
-      pub corners-small : counts .corners ≤ 262144
-      corners-small =
-          omega (arith, told .corners, corner-count-fits n (paint (blocks cs ls labels₁)) (4 ^ n) (number-zero n cs ls ks (met .accepted) .small), small)
+      pub counts-small : (counts .cycles ≤ 65536) × (counts .corners ≤ 262144)
+      counts-small = (
+        omega (arith, outlined .cycle-count, cycles-fit n (paint (blocks cs ls labels₁)) (4 ^ n), small),
+        omega (arith, outlined .corner-count, corner-count-fits n (paint (blocks cs ls labels₁)) (4 ^ n) (number-zero n cs ls ks (met .accepted) .small), small),
+      )
 
       written : cyclesWritten n cs ls ks b ≡ listing n (paint (blocks cs ls labels₁)) (4 ^ n)
       unfolding cyclesWritten
@@ -136,18 +138,18 @@ module _ (n : ℕ) (cs ls ks : List ℕ) (b : Lent) {short : Bool} (tested : sho
         answer = λ i. record {
           number = sym number-is i;
           regions = (regions-are ∙ sym (count-accepted (tracingNumber n cs ls ks b) (regions n (paint (blocks cs ls ks))) number-is)) i;
-          cycles = (told .cycles ∙ ap cycleCount (sym written)) i;
-          corners = (told .corners ∙ ap cornerCount (sym written)) i;
+          cycles = (outlined .cycle-count ∙ ap cycleCount (sym written)) i;
+          corners = (outlined .corner-count ∙ ap cornerCount (sym written)) i;
         };
         in-labels =
             labels-are
             ∙ ap (λ (l : List ℕ). over l (b .labelList)) (sym (written-accepted (tracingNumber n cs ls ks b) (labels n (blocks cs ls ks)) number-is));
         in-work =
-            told .in-work
+            outlined .in-work
             ∙ ap (over (replicate (2 * 4 ^ n) 0)) work-is
             ∙ over-twice (replicate (2 * 4 ^ n) 0) (replicate (2 * 4 ^ n) 0) (b .workList) (omega arith)
             ∙ ap (λ (l : List ℕ). over l (b .workList)) (sym (written-accepted (tracingNumber n cs ls ks b) (replicate (2 * 4 ^ n) 0) number-is));
-        in-owners = told .in-owners ∙ ap (λ (c : List Cycle). over (owners c) (b .ownerList)) (sym written);
-        in-ends = told .in-ends ∙ ap (λ (c : List Cycle). over (ends c) (b .endList)) (sym written);
-        in-corners = told .in-corners ∙ ap (λ (c : List Cycle). over (allCorners c) (b .cornerList)) (sym written);
+        in-owners = outlined .in-owners ∙ ap (λ (c : List Cycle). over (owners c) (b .ownerList)) (sym written);
+        in-ends = outlined .in-ends ∙ ap (λ (c : List Cycle). over (ends c) (b .endList)) (sym written);
+        in-corners = outlined .in-corners ∙ ap (λ (c : List Cycle). over (allCorners c) (b .cornerList)) (sym written);
       }

@@ -4,8 +4,9 @@ use mathlib.Core.List.{List, [], _∷_, _++_, map}
 use Prim.Native.Nat.{ℕ, zero, suc, _+_, _/_, _%_, _^_, _≤_, _<_}
 use native.Mathlib.Numerals.{add-one}
 use native.Mathlib.Omega.{arith}
-use lib.ListN.{length, getD, set, take, replicate, length-map, length-take}
+use lib.ListN.{length, getD, take, replicate, length-map, length-take}
 use lib.Seq.{getD-take, ext-getD}
+use Rattle.sequences.specs.Maps.{getD-map}
 use Rattle.sequences.specs.Over.{over, length-over, over-inside, over-beyond}
 use Rattle.sequences.specs.Powers.{pow4-mono}
 use Rattle.location.specs.Codes.{code}
@@ -14,17 +15,14 @@ use Rattle.location.specs.Levels.{sideOf}
 use Rattle.quadtree.specs.Raster.{place, inRows}
 use Rattle.quadtree.specs.Orders.{place-in, code-of-place, in-rows-at, length-in-rows}
 use Rattle.quadtree.specs.Blocks.{Block, blocks, paint}
-use Rattle.quadtree.specs.Number.{number}
 use Rattle.quadtree.specs.Painting.{length-paint}
-use Rattle.quadtree.specs.Accepted.{number-zero}
-use Rattle.blocks.specs.Filling.{RowsFilled, run-empty, run-one-more, rows-empty, rows-one-more}
-use Rattle.blocks.specs.Painting.{Paintable, PaintedTo, painted-more, painted-all}
+use Rattle.squares.specs.Filling.{RowsFilled}
+use Rattle.squares.specs.BlockByBlock.{Paintable, PaintedTo, painted-more, painted-all}
 use Rattle.staircase.specs.FirstBlocks.{all-pixels}
-use Rattle.components.specs.Numbers.{numbers, labels}
 use Rattle.components.specs.Holders.{holder, HoldsAt, held-colour, pixel-held}
 use Rattle.links.specs.Forward.{Labelled}
-use Rattle.links.specs.Relabelled.{length-as, colour-as, cover-as, labels-room, relabelled, relabelled-paints}
-use Rattle.tracing.specs.Mapped.{numsOf, Mapped, Marked, length-nums, nums-at}
+use Rattle.links.specs.Relabelled.{length-as, colour-as, cover-as}
+use Rattle.cycles.specs.Mapped.{numsOf, Mapped, Marked, length-nums, nums-at}
 
 -- The blocks have their labels for colours, the lists are long enough, and the map has room for the image.
 pub record Fillable (n : ℕ) (codes levels labels map : List ℕ) : Type 0 where
@@ -45,12 +43,6 @@ pub record MapFilled (n : ℕ) (nums map map′ : List ℕ) : Type 0 where
 unfoldable pub raised : List ℕ → List ℕ
 raised l = map suc l
 
--- A square of one entry.
-pub entry-filled : {w at s v : ℕ} {old : List ℕ} → s ≡ 1 → at < length old → RowsFilled w at s s v old (set old at v)
-entry-filled {w} {at} {s} {v} {old} one room =
-    subst (λ (k : ℕ). RowsFilled w at k k v old (set old at v)) (sym one)
-    (rows-one-more at (omega arith) rows-empty (run-one-more at (omega arith) room run-empty))
-
 -- The value of each block: 1 plus its label.
 unfoldable pub values : List ℕ → List ℕ → List ℕ
 values codes labels = map suc (take (length codes) labels)
@@ -59,15 +51,10 @@ pub length-values : (codes labels : List ℕ) → length codes ≤ length labels
 unfolding values
 length-values codes labels h = length-map (take (length codes) labels) suc ∙ omega (arith, length-take (length codes) labels)
 
-getD-suc : (l : List ℕ) (i : ℕ) → i < length l → getD (map suc l) i 0 ≡ suc (getD l i 0)
-getD-suc [] i h = absurd (omega arith)
-getD-suc (x ∷ l) zero h = refl
-getD-suc (x ∷ l) (suc i) h = getD-suc l i (omega arith)
-
 value-at : (codes labels : List ℕ) (i : ℕ) → length codes ≤ length labels → i < length codes → getD (values codes labels) i 0 ≡ suc (getD labels i 0)
 unfolding values
 value-at codes labels i h l =
-    getD-suc (take (length codes) labels) i (omega (arith, length-take (length codes) labels)) ∙ ap suc (getD-take (length codes) labels i 0 l)
+    getD-map suc (take (length codes) labels) i 0 0 (omega (arith, length-take (length codes) labels)) ∙ ap suc (getD-take (length codes) labels i 0 l)
 
 -- The blocks with these values paint 1 plus what the blocks with their labels paint.
 map-run : (k v : ℕ) (l : List ℕ) → map suc (replicate k v ++ l) ≡ replicate k (suc v) ++ map suc l
@@ -140,7 +127,7 @@ module _ {n : ℕ} {codes levels labels map : List ℕ} (f : Fillable n codes le
         ap (λ l. getD l j 0) e
         ∙ over-inside (inRows n (raised (paint (blocks codes levels labels)))) map j (omega (arith, front))
         ∙ in-rows-at n (raised (paint (blocks codes levels labels))) j h
-        ∙ getD-suc (paint (blocks codes levels labels)) (code n (j % 2 ^ n) (j / 2 ^ n)) (omega (arith, long-paint, code-below n (j % 2 ^ n) (j / 2 ^ n)))
+        ∙ getD-map suc (paint (blocks codes levels labels)) (code n (j % 2 ^ n) (j / 2 ^ n)) 0 0 (omega (arith, long-paint, code-below n (j % 2 ^ n) (j / 2 ^ n)))
 
     filled-low : (j : ℕ) → j < 4 ^ n → (0 < getD map′ j 0) × (getD map′ j 0 ≤ 65536)
     filled-low j h =
@@ -170,17 +157,3 @@ module _ {n : ℕ} {codes levels labels map : List ℕ} (f : Fillable n codes le
       where
         same-long : length map′ ≡ length map
         same-long = ap length e ∙ length-over (inRows n (raised (paint (blocks codes levels labels)))) map (omega (arith, front, f .enough))
-
--- An accepted list with what the numbering leaves in its label list: the map holds the region numbers.
-module _ (n : ℕ) (cs ls ks : List ℕ) (accepted : number n cs ls ks ≡ 0) (old : List ℕ) (room : length cs ≤ length old) (map : List ℕ) (enough : 4 ^ n ≤ length map) where
-  pub accepted-fillable : Fillable n cs ls (over (labels n (blocks cs ls ks)) old) map
-  accepted-fillable = record {
-    levels-too = number-zero n cs ls ks accepted .equal-levels;
-    labels-too = labels-room n cs ls ks accepted old room;
-    labelled = relabelled n cs ls ks accepted old room;
-    enough = enough;
-  }
-
-  pub region-map : (map′ : List ℕ) → map′ ≡ over (inRows n (raised (paint (blocks cs ls (over (labels n (blocks cs ls ks)) old))))) map
-      → MapFilled n (numbers n (paint (blocks cs ls ks))) map map′
-  region-map map′ e = subst (λ nums. MapFilled n nums map map′) (relabelled-paints n cs ls ks accepted old room) (map-filled accepted-fillable e)

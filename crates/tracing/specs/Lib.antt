@@ -1,21 +1,5 @@
--- The map of regions with its marks, the walk along one cycle, the listing, and what the tracing promises.
-pub mod Mapped
-pub mod Promise
-pub mod Look
-pub mod Rule
-pub mod Marks
-pub mod Points
-pub mod Straight
-pub mod Walking
-pub mod Progress
-pub mod Unmarked
-pub mod Written
+-- The map of regions, the outlines of labelled blocks, and what the tracing promises.
 pub mod Filling
-pub mod Turn
-pub mod Rows
-pub mod Blocks
-pub mod Going
-pub mod Regions
 pub mod Outlining
 pub mod Tracing
 pub mod Accepting

@@ -1,58 +1,55 @@
--- From the labels of the blocks to all outlines: the chains, the map, the listing, and the work list cleared.
+-- From the labels of the blocks to all outlines: the links, the map, the listing, and the work list cleared.
 use mathlib.Core.Path.{_≡_, refl, sym, ap, _∙_}
-use mathlib.Core.Logic.{inr}
 use mathlib.Core.List.{List, [], _∷_}
-use Prim.Native.Nat.{ℕ, _+_, _-_, _*_, _^_, _≤_, _<_}
+use Prim.Native.Nat.{ℕ, _+_, _*_, _^_, _≤_, _<_}
 use native.Mathlib.Decide.{decLt}
 use native.Mathlib.Omega.{arith}
 use lib.ListN.{length, getD, replicate, length-replicate, getD-replicate}
 use lib.Seq.{ext-getD}
+use Rattle.sequences.specs.Fill.{fill, length-fill, fill-inside, fill-beyond}
 use Rattle.sequences.specs.Over.{over, over-none, length-over, over-inside, over-beyond}
 use Rattle.sequences.specs.Powers.{pow4-pos, pow4-mono}
 use Rattle.location.specs.Levels.{pixelsOf, pixels-are-power}
 use Rattle.quadtree.specs.Blocks.{Block, blocks, pixels, paint}
 use Rattle.quadtree.specs.Raster.{inRows}
 use Rattle.staircase.specs.FirstBlocks.{all-pixels}
-use Rattle.blocks.specs.Filling.{RunFilled}
 use Rattle.grid.specs.Listing.{Cycle, listing, owners, ends, allCorners, cycleCount, cornerCount}
 use Rattle.links.specs.Linking.{Linkable, Linked}
 use Rattle.links.specs.Ahead.{marks-none}
 use Rattle.links.specs.FirstCycles.{firstCycles, length-first}
 use Rattle.links.specs.Forward.{Labelled}
 use Rattle.links.specs.Relabelled.{length-as, colour-as}
-use Rattle.tracing.specs.Mapped.{Marked}
+use Rattle.cycles.specs.Mapped.{Marked}
 use Rattle.tracing.specs.Filling.{raised, Fillable, MapFilled, map-filled}
-use Rattle.tracing.specs.Progress.{state}
-use Rattle.tracing.specs.Going.{Going}
-use Rattle.tracing.specs.Regions.{AllTold}
-use Rattle.tracing.specs.declared.listing.Counts.{Counts}
+use Rattle.listing.specs.Progress.{State, state, noneCounted, CycleRoom, none-between}
+use Rattle.listing.specs.MapAndLinks.{MapAndLinks}
+use Rattle.listing.specs.Regions.{AllListed}
+use Rattle.listing.specs.declared.Counts.{Counts}
 
 -- A list of blocks with labels, a work list whose first 2 times 4^n entries are 0, and room for all cycles.
-pub record OutlinesAsked (n : ℕ) (codes levels labels work owned ended points : List ℕ) : Type 0 where
+pub record Outlinable (n : ℕ) (codes levels labels : List ℕ) (s : State) : Type 0 where
   pub labelled : Labelled n (blocks codes levels labels)
   pub equal : length codes ≡ length levels
   pub enough : length codes ≤ length labels
-  pub zeros : (j : ℕ) → j < 2 * 4 ^ n → getD work j 0 ≡ 0
-  pub for-work : 2 * 4 ^ n ≤ length work
-  pub for-owners : 4 ^ n ≤ length owned
-  pub for-ends : 4 ^ n ≤ length ended
-  pub for-corners : 4 * 4 ^ n ≤ length points
+  pub zeros : (j : ℕ) → j < 2 * 4 ^ n → getD (s .work) j 0 ≡ 0
+  pub for-work : 2 * 4 ^ n ≤ length (s .work)
+  pub room : CycleRoom n s
 
--- All cycles of the labels' image stand in the lists, and the work list is cleared.
-pub record OutlinesTold (n : ℕ) (codes levels labels work owned ended points work′ owned′ ended′ points′ : List ℕ) (r : Counts) : Type 0 where
-  pub in-owners : owned′ ≡ over (owners (listing n (paint (blocks codes levels labels)) (4 ^ n))) owned
-  pub in-ends : ended′ ≡ over (ends (listing n (paint (blocks codes levels labels)) (4 ^ n))) ended
-  pub in-corners : points′ ≡ over (allCorners (listing n (paint (blocks codes levels labels)) (4 ^ n))) points
-  pub in-work : work′ ≡ over (replicate (2 * 4 ^ n) 0) work
-  pub cycles : r .cycles ≡ cycleCount (listing n (paint (blocks codes levels labels)) (4 ^ n))
-  pub corners : r .corners ≡ cornerCount (listing n (paint (blocks codes levels labels)) (4 ^ n))
+-- All cycles of the image that a list of blocks paints stand in the lists and are counted, and the work list is cleared.
+pub record Outlined (n : ℕ) (bs : List Block) (s₀ s : State) : Type 0 where
+  pub in-owners : s .owned ≡ over (owners (listing n (paint bs) (4 ^ n))) (s₀ .owned)
+  pub in-ends : s .ended ≡ over (ends (listing n (paint bs) (4 ^ n))) (s₀ .ended)
+  pub in-corners : s .points ≡ over (allCorners (listing n (paint bs) (4 ^ n))) (s₀ .points)
+  pub in-work : s .work ≡ over (replicate (2 * 4 ^ n) 0) (s₀ .work)
+  pub cycle-count : s .cycles ≡ cycleCount (listing n (paint bs) (4 ^ n))
+  pub corner-count : s .corners ≡ cornerCount (listing n (paint bs) (4 ^ n))
 
 blocks-at-most-pixels : (bs : List Block) → length bs ≤ pixels bs
 unfolding pixels
 blocks-at-most-pixels [] = omega arith
 blocks-at-most-pixels (b ∷ bs) = omega (arith, blocks-at-most-pixels bs, pow4-pos (b .level))
 
-module _ {n : ℕ} {codes levels labels work owned ended points : List ℕ} (ok : OutlinesAsked n codes levels labels work owned ended points) where
+module _ {n : ℕ} {codes levels labels work owned ended points : List ℕ} (ok : Outlinable n codes levels labels (state work owned ended points noneCounted)) where
   abbrev bs : List Block
   bs = blocks codes levels labels
 
@@ -98,9 +95,9 @@ module _ {n : ℕ} {codes levels labels work owned ended points : List ℕ} (ok 
         filled : MapFilled n (paint (blocks codes levels labels)) linked mapped
         filled = map-filled fillable e
 
-        pub going : Going n codes levels labels (state mapped owned ended points 0 0)
+        pub map-and-links : MapAndLinks n codes levels labels (state mapped owned ended points noneCounted)
         unfolding owners ends allCorners cornerCount firstCycles
-        going = record {
+        map-and-links = record {
           labelled = ok .labelled;
           equal = ok .equal;
           enough = ok .enough;
@@ -109,13 +106,14 @@ module _ {n : ℕ} {codes levels labels work owned ended points : List ℕ} (ok 
           links = λ i h.
               filled .beyond (4 ^ n + i) (omega arith)
               ∙ ap (λ (w : ℕ). getD linked (w + i) 0) (sym whole-is) ∙ l .nexts i h;
-          room = record { small = ok .labelled .small; for-owners = ok .for-owners; for-ends = ok .for-ends; for-corners = ok .for-corners };
+          room = record { small = ok .labelled .small; for-owners = ok .room .for-owners; for-ends = ok .room .for-ends; for-corners = ok .room .for-corners };
           listed = record {
             few = omega arith;
             in-owners = sym (over-none owned);
             in-ends = sym (over-none ended);
             in-corners = sym (over-none points);
             corners-so-far = refl;
+            in-work = none-between n nums 0 mapped;
             mapped = filled .mapped;
             numbers = filled .numbers;
             marks = marks-none n nums (Marked n mapped) (filled .unmarked);
@@ -124,21 +122,21 @@ module _ {n : ℕ} {codes levels labels work owned ended points : List ℕ} (ok 
           };
         }
 
-        module _ {work′ owned′ ended′ points′ : List ℕ} {cycles at : ℕ}
-            (t : AllTold n codes levels labels (state mapped owned ended points 0 0) (state work′ owned′ ended′ points′ cycles at)) where
+        module _ {work′ owned′ ended′ points′ : List ℕ} {counts : Counts}
+            (t : AllListed n (blocks codes levels labels) (state mapped owned ended points noneCounted) (state work′ owned′ ended′ points′ counts)) where
           pub clear-room : 0 + (whole + length codes) ≤ length work′
           clear-room = omega (arith, whole-is, few, t .listed .long, filled .same-length, l .long, ok .for-work)
 
-          pub told : {cleared : List ℕ} → RunFilled 0 (whole + length codes) 0 work′ cleared
-              → OutlinesTold n codes levels labels work owned ended points cleared owned′ ended′ points′ (record { cycles = cycles; corners = at })
+          pub outlined : {cleared : List ℕ} → cleared ≡ fill work′ 0 (whole + length codes) 0
+              → Outlined n (blocks codes levels labels) (state work owned ended points noneCounted) (state cleared owned′ ended′ points′ counts)
           unfolding cycleCount cornerCount
-          told {cleared} r = record {
+          outlined {cleared} e = record {
             in-owners = t .listed .in-owners ∙ ap (λ (c : List Cycle). over (owners c) owned) (t .all);
             in-ends = t .listed .in-ends ∙ ap (λ (c : List Cycle). over (ends c) ended) (t .all);
             in-corners = t .listed .in-corners ∙ ap (λ (c : List Cycle). over (allCorners c) points) (t .all);
             in-work = same;
-            cycles = sym (length-first n nums cycles (t .listed .few)) ∙ ap length (t .all);
-            corners = t .listed .corners-so-far ∙ ap (λ (c : List Cycle). length (allCorners c)) (t .all);
+            cycle-count = sym (length-first n nums (counts .cycles) (t .listed .few)) ∙ ap length (t .all);
+            corner-count = t .listed .corners-so-far ∙ ap (λ (c : List Cycle). length (allCorners c)) (t .all);
           }
             where
               zeros : List ℕ
@@ -150,13 +148,15 @@ module _ {n : ℕ} {codes levels labels work owned ended points : List ℕ} (ok 
               -- what lies behind the map and the links is as it was
               kept : (j : ℕ) → whole + length codes ≤ j → getD cleared j 0 ≡ getD work j 0
               kept j h =
-                  r .outside j (inr (omega arith))
+                  ap (λ (w : List ℕ). getD w j 0) e
+                  ∙ fill-beyond work′ 0 (whole + length codes) 0 j (omega arith)
                   ∙ t .listed .beyond j (omega (arith, whole-is))
                   ∙ filled .beyond j (omega (arith, whole-is))
                   ∙ l .beyond j h
 
               blank : (j : ℕ) → j < 2 * 4 ^ n → Dec (j < whole + length codes) → getD cleared j 0 ≡ 0
-              blank j h (yes k) = r .inside j (omega arith) (omega arith)
+              blank j h (yes k) =
+                  ap (λ (w : List ℕ). getD w j 0) e ∙ fill-inside work′ 0 (whole + length codes) 0 j clear-room (omega arith) (omega arith)
               blank j h (no k) = kept j (omega arith) ∙ ok .zeros j h
 
               at-place : (j : ℕ) → Dec (j < 2 * 4 ^ n) → getD cleared j 0 ≡ getD (over zeros work) j 0
@@ -168,5 +168,5 @@ module _ {n : ℕ} {codes levels labels work owned ended points : List ℕ} (ok 
               same : cleared ≡ over zeros work
               same =
                   ext-getD 0 cleared (over zeros work)
-                  (r .long ∙ t .listed .long ∙ filled .same-length ∙ l .long ∙ sym (length-over zeros work (omega (arith, zeros-long, ok .for-work))))
+                  (ap length e ∙ length-fill work′ 0 (whole + length codes) 0 ∙ t .listed .long ∙ filled .same-length ∙ l .long ∙ sym (length-over zeros work (omega (arith, zeros-long, ok .for-work))))
                   (λ j h. at-place j (decLt j (2 * 4 ^ n)))

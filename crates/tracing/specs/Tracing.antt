@@ -8,13 +8,12 @@ use native.Mathlib.Omega.{arith}
 use lib.ListN.{length, replicate}
 use lib.Dec.{ltb}
 use borrow.Author.Tests.{lt-ltb, le-ltb}
-use Rattle.sequences.specs.Cases.{when, ifAccepted, first-some, first-none, when-yes, when-no, written-refused}
+use Rattle.sequences.specs.Cases.{when, ifAccepted, first-some, first-none, when-yes, when-no, written-refused, countIfAccepted, count-refused}
 use Rattle.sequences.specs.Over.{over, over-none}
 use Rattle.quadtree.specs.Blocks.{blocks, paint}
 use Rattle.quadtree.specs.Number.{number, numberWith}
 use Rattle.blocks.specs.Checking.{number-large}
 use Rattle.components.specs.Numbers.{numbers, labels, regions}
-use Rattle.regions.specs.Promise.{countIfAccepted, count-refused}
 use Rattle.grid.specs.Listing.{Cycle, listing, owners, ends, allCorners, cycleCount, cornerCount}
 use Rattle.links.specs.Image.{imageOutlines}
 use Rattle.tracing.specs.declared.Traced.{Traced}
@@ -236,9 +235,9 @@ module _ (n : ℕ) (cs ls ks : List ℕ) (b : Lent) where
   pub large-refused : 8 < n → Tracing n cs ls ks b b (record { number = 1; regions = 0; cycles = 0; corners = 0 })
   large-refused h = refused (λ z. omega arith) (list-fault 1 (number-large n cs ls ks h) (λ z. omega arith))
 
-  module _ {k : ℕ} (checked : k ≡ number n cs ls ks) where
-    pub fault-refused : (k ≡ 0 → ⊥) → Tracing n cs ls ks b b (record { number = k; regions = 0; cycles = 0; corners = 0 })
-    fault-refused p = refused p (list-fault k checked p)
+module _ {n : ℕ} {cs ls ks : List ℕ} (b : Lent) {k : ℕ} (checked : k ≡ number n cs ls ks) {t : Bool} (tested : t ≡ tooShort n (length cs) b) where
+  pub fault-refused : (k ≡ 0 → ⊥) → Tracing n cs ls ks b b (record { number = k; regions = 0; cycles = 0; corners = 0 })
+  fault-refused p = refused n cs ls ks b p (list-fault n cs ls ks b k checked p)
 
-    pub short-refused : k ≡ 0 → {t : Bool} → t ≡ tooShort n (length cs) b → t ≡ true → Tracing n cs ls ks b b (record { number = 8; regions = 0; cycles = 0; corners = 0 })
-    short-refused z tested h = refused (λ y. omega arith) (short (sym checked ∙ z) (sym h ∙ tested))
+  pub short-refused : t ≡ true → k ≡ 0 → Tracing n cs ls ks b b (record { number = 8; regions = 0; cycles = 0; corners = 0 })
+  short-refused h z = refused n cs ls ks b (λ y. omega arith) (short n cs ls ks b (sym checked ∙ z) (sym h ∙ tested))

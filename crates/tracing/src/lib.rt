@@ -1,14 +1,13 @@
 // The outlines of all regions of a block list: a map of region numbers, and a walk along each cycle that writes its corners.
-use crate::listing::Counts;
+use listing::Counts;
 ghost use mathlib.Core.Path.{_≡_};
 ghost use Prim.Native.Nat.{_≤_};
-ghost use Rattle.tracing.specs.Outlining.{OutlinesAsked, OutlinesTold};
+ghost use Rattle.listing.specs.Progress.{state, entryState, exitState, noneCounted};
+ghost use Rattle.listing.specs.MapAndLinks.{entryBlocks};
+ghost use Rattle.tracing.specs.Outlining.{Outlinable, Outlined};
 ghost use Rattle.tracing.specs.Tracing.{lent, tooShort, Tracing};
 
-mod chains;
-mod cycle;
-mod listing;
-mod look;
+mod linking;
 mod map;
 
 // The number of an answer, 0 for acceptance, and the counts of regions, of cycles and of the corners of all cycles.
@@ -42,7 +41,8 @@ fn short(
     corners: &[u32],
 ) -> bool
     requires { ⌜ n ≤ 8 ⌝ }
-    ensures { λ r. ⌜ r ≡ tooShort n count (lent (now (labels .entry)) (now (work .entry)) (now (owners .entry)) (now (ends .entry)) (now (corners .entry))) ⌝ }
+    ensures { λ r. ⌜ r ≡ tooShort n count
+        (lent (now (labels .entry)) (now (work .entry)) (now (owners .entry)) (now (ends .entry)) (now (corners .entry))) ⌝ }
 {
     let whole = location::pixels(n);
     if labels.len() < count {
@@ -72,19 +72,21 @@ fn outline(
     ends: &mut [u32],
     corners: &mut [u32],
 ) -> Counts
-    requires { ⌜ OutlinesAsked n (now codes) (now levels) (now labels) (now work) (now owners) (now ends) (now corners) ⌝ }
-    ensures { λ r. ⌜ OutlinesTold n (now (codes .entry)) (now (levels .entry)) (now (labels .entry)) (now (work .entry)) (now (owners .entry)) (now (ends .entry)) (now (corners .entry)) (now (work .exit)) (now (owners .exit)) (now (ends .exit)) (now (corners .exit)) r ⌝ }
+    requires { ⌜ Outlinable n (now codes) (now levels) (now labels) (state (now work) (now owners) (now ends) (now corners) noneCounted) ⌝ }
+    ensures { λ r. ⌜ Outlined n (entryBlocks codes levels labels) (entryState work owners ends corners noneCounted) (exitState work owners ends corners r) ⌝ }
 {
     let whole = location::pixels(n);
-    chains::link(whole, codes.len(), labels, work);
+    let used = whole + codes.len();
+    linking::link(whole, codes.len(), labels, work);
     map::fill_map(n, codes, levels, labels, work);
     let counts = listing::list_all(n, codes, levels, labels, work, owners, ends, corners);
-    map::fill_run(work, 0, whole + codes.len(), 0);
+    filling::fill(work, 0, used, 0);
     counts
 }
 
-// The outlines of all regions of a block list: labels, owners, ends and corners, and the counts of regions, cycles and corners. The numbering checks the
-// block list; where a lent list is too short nothing is numbered, and the check tells whether a cause before 8 applies.
+// The outlines of all regions of a block list: labels, owners, ends and corners, and the counts of regions, cycles and corners. The
+// numbering checks the block list; where a lent list is too short nothing is numbered, and the check tells whether a cause before 8
+// applies.
 pub fn trace(
     n: u32,
     codes: &[u32],
@@ -96,7 +98,9 @@ pub fn trace(
     ends: &mut [u32],
     corners: &mut [u32],
 ) -> Traced
-    ensures { λ r. ⌜ Tracing n (now (codes .entry)) (now (levels .entry)) (now (colours .entry)) (lent (now (labels .entry)) (now (work .entry)) (now (owners .entry)) (now (ends .entry)) (now (corners .entry))) (lent (now (labels .exit)) (now (work .exit)) (now (owners .exit)) (now (ends .exit)) (now (corners .exit))) r ⌝ }
+    ensures { λ r. ⌜ Tracing n (now (codes .entry)) (now (levels .entry)) (now (colours .entry))
+        (lent (now (labels .entry)) (now (work .entry)) (now (owners .entry)) (now (ends .entry)) (now (corners .entry)))
+        (lent (now (labels .exit)) (now (work .exit)) (now (owners .exit)) (now (ends .exit)) (now (corners .exit))) r ⌝ }
 {
     if 8 < n {
         return refused(1);

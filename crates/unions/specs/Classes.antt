@@ -1,9 +1,10 @@
 -- The representatives of 0, 1, .. as a list: the executable form.
 use mathlib.Core.Path.{_≡_, refl, _∙_}
 use mathlib.Core.List.{List, [], _∷_, map, List·Memᴰ, List·Memᴰ·head, List·Memᴰ·tail}
-use Prim.Native.Nat.{ℕ, zero, suc, _<_, min, max}
+use Prim.Native.Nat.{ℕ, _<_, min, max}
 use native.Mathlib.Omega.{arith}
 use lib.ListN.{length, getD, length-map}
+use Rattle.sequences.specs.Maps.{getD-map}
 use Rattle.sequences.specs.Ranges.{range, length-range, range-at}
 use Rattle.unions.specs.Pairs.{Pair}
 use Rattle.unions.specs.Representatives.{merge, rep, joinAt}
@@ -18,11 +19,6 @@ classes N (e ∷ es) =
     let a = getD rs (e .one) 0 in
     let b = getD rs (e .two) 0 in
     map (merge (min a b) (max a b)) rs
-
-pub getD-map : (f : ℕ → ℕ) (l : List ℕ) (i : ℕ) → i < length l → getD (map f l) i 0 ≡ f (getD l i 0)
-getD-map f [] i h = absurd (omega arith)
-getD-map f (x ∷ l) zero h = refl
-getD-map f (x ∷ l) (suc i) h = getD-map f l i (omega arith)
 
 pub length-classes : (N : ℕ) (es : List Pair) → length (classes N es) ≡ N
 unfolding classes
@@ -46,4 +42,4 @@ classes-rep N [] w i h = range-at 0 N i h ∙ omega arith
 classes-rep N (e ∷ es) w i h =
     let a : getD (classes N es) (e .one) 0 ≡ rep es (e .one) = classes-rep N es (w .2) (e .one) (w .0) in
     let b : getD (classes N es) (e .two) 0 ≡ rep es (e .two) = classes-rep N es (w .2) (e .two) (w .1) in
-    getD-map _ (classes N es) i (omega (arith, length-classes N es)) ∙ rw (a, b, classes-rep N es (w .2) i h)
+    getD-map _ (classes N es) i 0 0 (omega (arith, length-classes N es)) ∙ rw (a, b, classes-rep N es (w .2) i h)

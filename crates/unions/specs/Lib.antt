@@ -7,4 +7,4 @@ pub mod Roots
 pub mod OwnParents
 pub mod Halving
 pub mod Joining
-pub mod Numbering
+pub mod RootNumbers

@@ -1,5 +1,6 @@
 -- Pairs of numbers, and what they link.
-use mathlib.Core.Path.{_≡_, refl}
+use mathlib.Core.Path.{_≡_, refl, sym, _∙_, subst}
+use mathlib.Core.Logic.{_⊎_, inl, inr}
 use mathlib.Core.List.{List, _∷_, List·Memᴰ, List·Memᴰ·tail}
 use Prim.Native.Nat.{ℕ}
 
@@ -27,6 +28,25 @@ linked-into es fs into (same h) = same h
 linked-into es fs into (pair e m a b) = transitive (same a) (transitive (into e m) (symmetric (same b)))
 linked-into es fs into (symmetric l) = symmetric (linked-into es fs into l)
 linked-into es fs into (transitive k l) = transitive (linked-into es fs into k) (linked-into es fs into l)
+
+-- What holds of each pair, and passes back and through, holds of all that the pairs link, but for a number with itself.
+pub linked-as : (es : List Pair) (R : ℕ → ℕ → Type 0) → ((e : Pair) → List·Memᴰ e es → R (e .one) (e .two)) → ((i j : ℕ) → R i j → R j i)
+    → ((i j k : ℕ) → R i j → R j k → R i k) → {i j : ℕ} → Linked es i j → (i ≡ j) ⊎ R i j
+linked-as es R each back through (same h) = inl h
+linked-as es R each back through (pair {i} {j} e m a b) =
+    inr (subst (λ (x : ℕ). R x j) (sym a) (subst (λ (x : ℕ). R (e .one) x) (sym b) (each e m)))
+linked-as es R each back through (symmetric {i} {j} l) = turn (linked-as es R each back through l)
+  where
+    turn : (i ≡ j) ⊎ R i j → (j ≡ i) ⊎ R j i
+    turn (inl h) = inl (sym h)
+    turn (inr p) = inr (back i j p)
+linked-as es R each back through (transitive {i} {j} {k} l r) = chain (linked-as es R each back through l) (linked-as es R each back through r)
+  where
+    chain : (i ≡ j) ⊎ R i j → (j ≡ k) ⊎ R j k → (i ≡ k) ⊎ R i k
+    chain (inl h) (inl g) = inl (h ∙ g)
+    chain (inl h) (inr q) = inr (subst (λ (x : ℕ). R x k) (sym h) q)
+    chain (inr p) (inl g) = inr (subst (λ (x : ℕ). R i x) g p)
+    chain (inr p) (inr q) = inr (through i j k p q)
 
 -- One pair more, or more of them, link no less.
 pub linked-among : (es fs : List Pair) → ((e : Pair) → List·Memᴰ e es → List·Memᴰ e fs) → {i j : ℕ} → Linked es i j → Linked fs i j

@@ -1,6 +1,6 @@
 -- Representatives: the least number of a class under a list of pairs, found by merging pair after pair.
 use mathlib.Core.Path.{_≡_, refl, sym, ap, _∙_, subst}
-use mathlib.Core.Logic.{_≢_, _⊎_, inl, inr, _↔_}
+use mathlib.Core.Logic.{_≢_, _⊎_, inl, inr}
 use mathlib.Core.Bool.{true, false}
 use mathlib.Core.List.{List, [], _∷_, List·Memᴰ, List·Memᴰ·head, List·Memᴰ·cases-cons, List·Memᴰ·not-nil}
 use Prim.Native.Nat.{ℕ, _≤_, min, max}
@@ -141,9 +141,6 @@ linked-rep es (pair e m a b) = ap (rep es) a ∙ rep-pair es e m ∙ sym (ap (re
 linked-rep es (symmetric l) = sym (linked-rep es l)
 linked-rep es (transitive k l) = linked-rep es k ∙ linked-rep es l
 
-pub same-representative-exactly-when-linked : (es : List Pair) (i j : ℕ) → (rep es i ≡ rep es j) ↔ Linked es i j
-same-representative-exactly-when-linked es i j = (rep-links es i j, λ l. linked-rep es l)
-
 -- A representative is its own, not above what it stands for, linked with it, and the least that is.
 pub rep-le : (es : List Pair) (i : ℕ) → rep es i ≤ i
 unfolding rep
@@ -160,10 +157,3 @@ linked-to-rep es i = rep-links es i (rep es i) (sym (rep-twice es i))
 
 pub rep-least : (es : List Pair) (i j : ℕ) → Linked es i j → rep es i ≤ j
 rep-least es i j l = omega (arith, linked-rep es l, rep-le es j)
-
--- Two lists of pairs that link the same numbers have the same representatives.
-pub rep-same : (es fs : List Pair) → ((i j : ℕ) → Linked es i j ↔ Linked fs i j) → (i : ℕ) → rep es i ≡ rep fs i
-rep-same es fs h i =
-    let a : rep es i ≤ rep fs i = rep-least es i (rep fs i) (h i (rep fs i) .1 (linked-to-rep fs i)) in
-    let b : rep fs i ≤ rep es i = rep-least fs i (rep es i) (h i (rep es i) .0 (linked-to-rep es i)) in
-    omega arith

@@ -107,9 +107,6 @@ module _ (p : List ℕ) (low : Low p) where
   unfolding root
   root-of-top i h = up-stays p i i h
 
-  pub root-of-root : (i : ℕ) → root p (root p i) ≡ root p i
-  root-of-root i = root-of-top (root p i) (root-is-top i)
-
   enough : (k i : ℕ) → i ≤ k → up p k i ≡ root p i
   unfolding root
   enough k i h =

@@ -5,6 +5,10 @@ use Rattle.blocks.specs.Checking.{number-large, number-levels-unlike, nu
 use Rattle.blocks.proofs.check.Statement.{statement}
 use Rattle.blocks.proofs.check.Tie as tie
 
+-- The three lists have one length.
+abbrev alike : tie.After-cover → tie.Else3
+alike c = c .before
+
 returns : tie.Need-returns
 returns c = number-large _ _ _ _ (c .if1 .taken)
 
@@ -18,20 +22,32 @@ cover-requires : tie.Need-cover-requires
 cover-requires c κs = (c .before .before .if1 .left, c .before .if2 .left)
 
 returns-4 : tie.Need-returns-4
-returns-4 c = number-cover _ _ _ _ (c .before .before .before .before .if1 .left) (c .before .before .before .if2 .left) (c .before .before .if3 .left) (c .before .cover .ensures) (c .if4 .taken)
+returns-4 c =
+    let same = alike (c .before) in
+    number-cover _ _ _ _ (same .before .before .if1 .left) (same .before .if2 .left) (same .if3 .left) (c .before .cover .ensures) (c .if4 .taken)
 
 siblings-requires : tie.Need-siblings-requires
-siblings-requires c κs = (
-  c .before .before .before .before .if1 .left,
-  record { levels-too = c .before .before .before .if2 .left; colours-too = c .before .before .if3 .left },
-  sym (c .before .cover .ensures _ (sym (c .before .before .if3 .left))) ∙ c .if4 .left,
-)
+siblings-requires c κs =
+    let same = alike (c .before) in
+    record {
+      small = same .before .before .if1 .left;
+      long = record { levels-too = same .before .if2 .left; colours-too = same .if3 .left };
+      covered = sym (c .before .cover .ensures _ (sym (same .if3 .left))) ∙ c .if4 .left;
+    }
 
 returns-5 : tie.Need-returns-5
-returns-5 c = number-siblings _ _ _ _ (c .before .before .before .before .before .before .if1 .left) (c .before .before .before .before .before .if2 .left) (c .before .before .before .before .if3 .left) (c .before .before .before .cover .ensures) (c .before .before .if4 .left) (c .before .siblings .ensures) (c .if5 .taken)
+returns-5 c =
+    let none = c .before .before in
+    let same = alike (none .before) in
+    number-siblings _ _ _ _ (same .before .before .if1 .left) (same .before .if2 .left) (same .if3 .left) (none .before .cover .ensures) (none .if4 .left)
+    (c .before .siblings .ensures) (c .if5 .taken)
 
 returns-6 : tie.Need-returns-6
-returns-6 c = number-accepted _ _ _ _ (c .before .before .before .before .before .before .if1 .left) (c .before .before .before .before .before .if2 .left) (c .before .before .before .before .if3 .left) (c .before .before .before .cover .ensures) (c .before .before .if4 .left) (c .before .siblings .ensures) (c .if5 .left)
+returns-6 c =
+    let none = c .before .before in
+    let same = alike (none .before) in
+    number-accepted _ _ _ _ (same .before .before .if1 .left) (same .before .if2 .left) (same .if3 .left) (none .before .cover .ensures) (none .if4 .left)
+    (c .before .siblings .ensures) (c .if5 .left)
 
 pub check-spec : {M : Type 1} → statement M
 check-spec =

@@ -1,10 +1,13 @@
--- A list of 106,496 bytes takes the whole text of any bytes.
+-- The part that is printed is what was read, and a list of 106,496 bytes takes the whole text of any bytes.
 use native.Mathlib.Omega.{arith}
-use lib.ListN.{take, length-take}
+use lib.ListN.{length-take}
 use borrow.Author.Needs.{needs}
 use Rattle.printing.specs.Callers.{count-within, whole-text-written}
 use Rattle.outlines.proofs.answer.Statement.{statement}
 use Rattle.outlines.proofs.answer.Tie as tie
+
+part : tie.Need-slice-aggregate-print
+part c = search needs
 
 print-requires : tie.Need-print-requires
 print-requires c κs = search needs
@@ -17,11 +20,12 @@ same-length c = search needs
 
 returns : tie.Need-returns
 returns c =
-    let print = c .before .before .before .print in
-    let p = print .ensures in (
-      whole-text-written p (c .before .before .before .before .before .before .before .pre),
-      (count-within p, omega (arith, count-within p, length-take (print .result .count) (print .last .1 .0))),
+    let called = c .before .before .before in
+    let large = called .before .before .before .before .before .pre .2 in
+    let p = called .print .ensures in (
+      whole-text-written p large,
+      (count-within p, omega (arith, count-within p, length-take (called .print .result .count) (called .print .last .1 .0))),
     )
 
 pub answer-spec : {M : Type 1} → statement M
-answer-spec = tie.close (tie.spec print-requires cast-result same-length returns)
+answer-spec = tie.close (tie.spec part print-requires cast-result same-length returns)

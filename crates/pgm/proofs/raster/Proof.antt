@@ -23,7 +23,7 @@ part-result-start : tie.Need-part-result-start
 part-result-start c = search needs
 
 part-result-end : tie.Need-part-result-end
-part-result-end c = part-inside _ _ _ (c .before .read .ensures)
+part-result-end c = omega (arith, part-inside _ _ _ (c .before .read .ensures))
 
 returns : tie.Need-returns
 returns c =

@@ -2,7 +2,7 @@
 use mathlib.Core.Path.{refl, sym, ap, _∙_}
 use Rattle.pgm.specs.Picture.{answer, picture, said, judged}
 use Rattle.pgm.specs.PictureLaws.{said-refused}
-use Rattle.pgm.proofs.Sequence.{head-bad, head-on, head-inside}
+use Rattle.headers.specs.Sequence.{head-bad, head-on, head-inside}
 use borrow.Author.Needs.{needs}
 use Rattle.pgm.proofs.read.Statement.{statement}
 use Rattle.pgm.proofs.read.Tie as tie

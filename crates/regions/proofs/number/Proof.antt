@@ -11,12 +11,16 @@ use borrow.Author.Needs.{needs}
 use Rattle.regions.proofs.number.Statement.{statement}
 use Rattle.regions.proofs.number.Tie as tie
 
--- Past the first two tests: the list is accepted, and `need` is what the work list needs.
-abbrev entry : tie.After-pixels → tie.Start
-entry c = c .before .before .before .before .before .before .before .before .before
+-- The check, and the function's entry, from where what the work list needs is worked out.
+abbrev checked : tie.After-pixels → tie.After-check
+checked c = c .before .before .before
 
+abbrev entry : tie.After-pixels → tie.Start
+entry c = checked c .before .before .before .before .before .before
+
+-- There the list is accepted, and `need` is what the work list needs.
 accepted : (c : tie.After-pixels) → number (entry c .args .n) (entry c .args .codes .now) (entry c .args .levels .now) (entry c .args .colours .now) ≡ 0
-accepted c = sym (c .before .before .before .check .ensures) ∙ c .before .before .if1 .left
+accepted c = sym (checked c .check .ensures) ∙ c .before .before .if1 .left
 
 need : (c : tie.After-pixels) → (c .pixels .result ≤ 65536) × (2 * c .pixels .result ≡ 2 * 4 ^ entry c .args .n)
 need c = need-is _ _ _ _ (accepted c) (c .pixels .ensures)
@@ -43,26 +47,19 @@ pixels-requires c κs = search needs
 mul-need : tie.Need-mul-need
 mul-need c = omega (arith, need c .0)
 
-refused-requires-3 : tie.Need-refused-requires-3
-refused-requires-3 c κs = search needs
-
-returns-3 : tie.Need-returns-3
-returns-3 c =
-    let d = c .before .before in
-    rw (c .refused3 .ensures) (work-short _ _ _ _ _ _ (accepted d) (omega (arith, c .before .if3 .taken, need d .1)))
-
 slice-relend-prefix-label : tie.Need-slice-relend-prefix-label
 slice-relend-prefix-label c = search needs
 
 slice-aggregate-label : tie.Need-slice-aggregate-label
 slice-aggregate-label c =
-    let a = entry (c .before .before) .args in
-    omega (arith, length-take-le (length (a .codes .now)) (a .labels .now) (c .before .before .before .if2 .left))
+    let d = c .before .before in
+    omega (arith, length-take-le (length (entry d .args .codes .now)) (entry d .args .labels .now) (d .before .if2 .left))
 
 label-requires : tie.Need-label-requires
 label-requires c κs =
-    let d = c .before .before .before in
-    numberable _ _ _ _ (entry d .args .labels .now) _ (accepted d) (d .before .if2 .left) (need d .1) (c .before .before .if3 .left)
+    let t = c .before .before in
+    let d = t .before in
+    numberable _ _ _ _ (entry d .args .labels .now) _ (accepted d) (d .before .if2 .left) (need d .1) (t .if3 .taken)
 
 same-length : tie.Need-same-length
 same-length c = search needs
@@ -70,11 +67,20 @@ same-length c = search needs
 same-length-2 : tie.Need-same-length-2
 same-length-2 c = search needs
 
+returns-3 : tie.Need-returns-3
+returns-3 c =
+    let l = c .before .before .before .before in
+    let t = l .before .before .before in
+    let d = t .before in
+    written _ _ _ _ _ _ (accepted d) (d .before .if2 .left) (omega (arith, t .if3 .taken, need d .1)) (l .label .ensures)
+
+refused-requires-3 : tie.Need-refused-requires-3
+refused-requires-3 c κs = search needs
+
 returns-4 : tie.Need-returns-4
 returns-4 c =
-    let d = c .before .before .before .before .before .before .before .before in
-    written _ _ _ _ _ _ (accepted d) (d .before .if2 .left) (omega (arith, c .before .before .before .before .before .before .before .if3 .left, need d .1))
-    (c .before .before .before .before .label .ensures)
+    let d = c .before .before in
+    rw (c .refused3 .ensures) (work-short _ _ _ _ _ _ (accepted d) (omega (arith, c .before .if3 .left, need d .1)))
 
 pub number-spec : {M : Type 1} → statement M
 number-spec =
@@ -87,11 +93,11 @@ number-spec =
     returns-2
     pixels-requires
     mul-need
-    refused-requires-3
-    returns-3
     slice-relend-prefix-label
     slice-aggregate-label
     label-requires
     same-length
     same-length-2
+    returns-3
+    refused-requires-3
     returns-4)

@@ -40,16 +40,18 @@ returns-3 c =
 
 returns-4 : tie.Need-returns-4
 returns-4 c =
-    let s = entry (c .before .before .before .before) in
-    too-few-ends (s .args .n) (s .args .count) (lists s) (size (c .before .before .before .before)) (c .before .before .before .if1 .left) (c .before .before .if2 .left) (c .before .if3 .left) (c .if4 .taken)
+    let p = c .before .before .before .before in
+    let s = entry p in
+    too-few-ends (s .args .n) (s .args .count) (lists s) (size p) (c .before .before .before .if1 .left) (c .before .before .if2 .left) (c .before .if3 .left) (c .if4 .taken)
 
 mul-result : tie.Need-mul-result
 mul-result c = omega (arith, low (c .before .before .before .before))
 
 returns-5 : tie.Need-returns-5
 returns-5 c =
-    let s = entry (c .before .before .before .before) in
-    by-corners (s .args .n) (s .args .count) (lists s) (size (c .before .before .before .before)) (c .before .before .before .if1 .left) (c .before .before .if2 .left) (c .before .if3 .left) (c .if4 .left)
+    let p = c .before .before .before .before in
+    let s = entry p in
+    by-corners (s .args .n) (s .args .count) (lists s) (size p) (c .before .before .before .if1 .left) (c .before .before .if2 .left) (c .before .if3 .left) (c .if4 .left)
 
 pub short-spec : {M : Type 1} → statement M
 short-spec =

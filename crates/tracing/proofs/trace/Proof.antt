@@ -1,23 +1,50 @@
 -- `trace` meets its contract: a refusal leaves all lists; else the numbering leaves the labels and a blank work list, and the listing adds
 -- the cycles. The check runs once: in the numbering, or by itself where a list is too short.
+use Prim.Native.Nat.{_≤_}
 use native.Mathlib.Omega.{arith}
-use Rattle.tracing.specs.Accepting.{numbering-refused, outlines-asked, cycles-small, corners-small, traced}
+use Rattle.tracing.specs.Accepting.{numbering-refused, outlinable, counts-small, traced}
 use Rattle.tracing.specs.Tracing.{Lent, lent, large-refused, fault-refused, short-refused}
 use borrow.Author.Needs.{needs}
 use Rattle.tracing.proofs.trace.Statement.{statement}
 use Rattle.tracing.proofs.trace.Tie as tie
 
-abbrev entry : tie.After-short → tie.Start
-entry c = c .before .before .before .before .before .before .before .before .before .before .before .before .before .before .before
+-- ---- the places
+
+abbrev entry : tie.After-slice-known5 → tie.Start
+entry c = c .before .before .before .before .before .before .before .before
 
 abbrev lists : tie.Start → Lent
 lists s = lent (s .args .labels .now) (s .args .work .now) (s .args .owners .now) (s .args .ends .now) (s .args .corners .now)
+
+abbrev before-short : tie.After-short → tie.Else1
+before-short c = c .before .before .before .before .before .before
+
+abbrev long-enough : tie.After-number → tie.Else2
+long-enough c = c .before .before .before
+
+-- The lent lists as they were at entry.
+abbrev lent-at : tie.After-short → Lent
+lent-at c = lists (entry (before-short c .before))
+
+abbrev numbered : tie.After-struct-known → tie.After-number
+numbered c = c .before .before .before .before .before
+
+abbrev accepted : tie.After-outline-arg5 → tie.Else4
+accepted c = c .before .before .before .before .before
+
+abbrev outlined : tie.After-struct-known2 → tie.After-outline
+outlined c = c .before .before .before .before .before .before .before .before .before
+
+-- ---- the needs
 
 refused-requires : tie.Need-refused-requires
 refused-requires c κs = search needs
 
 returns : tie.Need-returns
-returns c = let s = c .before .before .before .before .before .before .before .before .before .before in rw (c .refused .ensures) (large-refused (s .args .n) (s .args .codes .now) (s .args .levels .now) (s .args .colours .now) (lists s) (c .before .if1 .taken))
+returns c =
+    let s = entry (c .before .before) in
+    rw (c .refused .ensures)
+    (large-refused (s .args .n) (s .args .codes .now) (s .args .levels .now) (s .args .colours .now) (lists s) (c .before .if1 .taken))
 
 short-requires : tie.Need-short-requires
 short-requires c κs = search needs
@@ -45,8 +72,8 @@ same-length-5 c = search needs
 
 returns-2 : tie.Need-returns-2
 returns-2 c =
-    let s = entry (c .before .before .before .before) in
-    rw (c .refused2 .ensures) (fault-refused (s .args .n) (s .args .codes .now) (s .args .levels .now) (s .args .colours .now) (lists s) (c .before .before .check .ensures) (c .before .if3 .taken))
+    let k = c .before .before in
+    rw (c .refused2 .ensures) (fault-refused (lent-at (k .before .before)) (k .check .ensures) (k .before .before .short .ensures) (c .before .if3 .taken))
 
 refused-requires-3 : tie.Need-refused-requires-3
 refused-requires-3 c κs = search needs
@@ -68,9 +95,8 @@ same-length-10 c = search needs
 
 returns-3 : tie.Need-returns-3
 returns-3 c =
-    let s = entry (c .before .before .before .before) in
-    rw (c .refused3 .ensures)
-    (short-refused (s .args .n) (s .args .codes .now) (s .args .levels .now) (s .args .colours .now) (lists s) (c .before .before .check .ensures) (c .before .if3 .left) (c .before .before .before .before .short .ensures) (c .before .before .before .if2 .taken))
+    let k = c .before .before in
+    rw (c .refused3 .ensures) (short-refused (lent-at (k .before .before)) (k .check .ensures) (k .before .before .short .ensures) (k .before .if2 .taken) (c .before .if3 .left))
 
 number-requires : tie.Need-number-requires
 number-requires c κs = search needs
@@ -95,28 +121,29 @@ same-length-15 c = search needs
 
 returns-4 : tie.Need-returns-4
 returns-4 c =
-    let d = c .before .before .before .before .before .before .before in
-    let s = entry (d .before .before .before .before) in
-    rw (c .refused4 .ensures)
-    (numbering-refused (s .args .n) (s .args .codes .now) (s .args .levels .now) (s .args .colours .now) (lists s) (d .before .before .before .before .short .ensures) (d .before .before .before .if2 .left) (d .number .ensures) (c .before .if4 .taken))
+    let d = numbered (c .before .before) in
+    let l = long-enough d in
+    rw (c .refused4 .ensures) (numbering-refused (lent-at (l .before)) (l .before .short .ensures) (l .if2 .left) (d .number .ensures) (c .before .if4 .taken))
 
 outline-requires : tie.Need-outline-requires
 outline-requires c κs =
-    let d = c .before .before .before .before .before .before .before .before .before .before .before in
-    let s = entry (d .before .before .before .before) in
-    outlines-asked (s .args .n) (s .args .codes .now) (s .args .levels .now) (s .args .colours .now) (lists s) (d .before .before .before .before .short .ensures) (d .before .before .before .if2 .left) (d .number .ensures) (c .before .before .before .before .before .if4 .left)
+    let d = numbered (accepted c .before) in
+    let l = long-enough d in
+    outlinable (lent-at (l .before)) (l .before .short .ensures) (l .if2 .left) (d .number .ensures) (accepted c .if4 .left)
+
+counts-low : (c : tie.After-struct-known2) → (outlined c .outline .result .cycles ≤ 65536) × (outlined c .outline .result .corners ≤ 262144)
+counts-low c =
+    let o = outlined c in
+    let a = accepted (o .before) in
+    let d = numbered (a .before) in
+    let l = long-enough d in
+    counts-small (lent-at (l .before)) (l .before .short .ensures) (l .if2 .left) (d .number .ensures) (a .if4 .left) (o .outline .ensures)
 
 cast-t41 : tie.Need-cast-t41
-cast-t41 c =
-    let d = c .before .before .before .before .before .before .before .before .before .before .before .before .before .before .before .before .before .before .before .before .before in
-    let s = entry (d .before .before .before .before) in
-    omega (arith, cycles-small (s .args .n) (s .args .codes .now) (s .args .levels .now) (s .args .colours .now) (lists s) (d .before .before .before .before .short .ensures) (d .before .before .before .if2 .left) (d .number .ensures) (c .before .before .before .before .before .before .before .before .before .before .before .before .before .before .before .if4 .left) (c .before .before .before .before .before .before .before .before .before .outline .ensures))
+cast-t41 c = omega (arith, counts-low c)
 
 cast-t42 : tie.Need-cast-t42
-cast-t42 c =
-    let d = c .before .before .before .before .before .before .before .before .before .before .before .before .before .before .before .before .before .before .before .before .before .before in
-    let s = entry (d .before .before .before .before) in
-    omega (arith, corners-small (s .args .n) (s .args .codes .now) (s .args .levels .now) (s .args .colours .now) (lists s) (d .before .before .before .before .short .ensures) (d .before .before .before .if2 .left) (d .number .ensures) (c .before .before .before .before .before .before .before .before .before .before .before .before .before .before .before .before .if4 .left) (c .before .before .before .before .before .before .before .before .before .before .outline .ensures))
+cast-t42 c = omega (arith, counts-low (c .before))
 
 same-length-16 : tie.Need-same-length-16
 same-length-16 c = search needs
@@ -135,9 +162,11 @@ same-length-20 c = search needs
 
 returns-5 : tie.Need-returns-5
 returns-5 c =
-    let d = c .before .before .before .before .before .before .before .before .before .before .before .before .before .before .before .before .before .before .before .before .before .before in
-    let s = entry (d .before .before .before .before) in
-    traced (s .args .n) (s .args .codes .now) (s .args .levels .now) (s .args .colours .now) (lists s) (d .before .before .before .before .short .ensures) (d .before .before .before .if2 .left) (d .number .ensures) (c .before .before .before .before .before .before .before .before .before .before .before .before .before .before .before .before .if4 .left) (c .before .before .before .before .before .before .before .before .before .before .outline .ensures)
+    let o = outlined (c .before) in
+    let a = accepted (o .before) in
+    let d = numbered (a .before) in
+    let l = long-enough d in
+    traced (lent-at (l .before)) (l .before .short .ensures) (l .if2 .left) (d .number .ensures) (a .if4 .left) (o .outline .ensures)
 
 pub trace-spec : {M : Type 1} → statement M
 trace-spec =

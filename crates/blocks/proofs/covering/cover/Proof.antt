@@ -16,6 +16,13 @@ Inv-loop n codes levels whole sum₀ i₀ sum i = Passed n codes levels sum i
 abbrev μ-loop : tie.MeasureT-loop
 μ-loop n codes levels whole sum₀ i₀ sum i = length codes - i
 
+-- Where the call began, and where the turn of the loop did.
+abbrev entry : tie.In-loop Inv-loop μ-loop → tie.Start Inv-loop μ-loop
+entry c = c .before .before .before .before .before
+
+abbrev turn : tie.After-block-fault Inv-loop μ-loop → tie.In-loop Inv-loop μ-loop
+turn c = c .before .before .before
+
 pixels-requires : tie.Need-pixels-requires Inv-loop μ-loop
 pixels-requires c κs = search needs
 
@@ -35,16 +42,29 @@ shared-slice-read-block-fault : tie.Need-shared-slice-read-block-fault Inv-loop 
 shared-slice-read-block-fault c = search needs
 
 block-fault-requires : tie.Need-block-fault-requires Inv-loop μ-loop
-block-fault-requires c κs = (c .before .before .before .before .before .before .before .pre .0, c .before .before .before .before .pixels .ensures ∙ pixels-are-power (c .before .before .before .before .before .before .before .args .n) (omega (arith, c .before .before .before .before .before .before .before .pre .0)))
+block-fault-requires c κs =
+    let now = c .before .before in
+    let small = entry now .pre .0 in
+    (small, now .before .before .pixels .ensures ∙ pixels-are-power (entry now .args .n) (omega (arith, small)))
 
 returns : tie.Need-returns Inv-loop μ-loop
-returns c = passed-fault (c .before .before .before .before .before .before .before .before .before .pre .1) (c .before .before .before .before .before .loop .inv) (c .before .before .before .before .loop-test .taken) (c .before .block-fault .ensures) (c .if1 .taken)
+returns c =
+    let fault = c .before in
+    let now = turn fault in
+    passed-fault (entry now .pre .1) (now .before .loop .inv) (now .loop-test .taken) (fault .block-fault .ensures) (c .if1 .taken)
 
 pixels-requires-2 : tie.Need-pixels-requires-2 Inv-loop μ-loop
 pixels-requires-2 c κs = search needs
 
 add-sum : tie.Need-add-sum Inv-loop μ-loop
-add-sum c = omega (arith, passed-room (c .before .before .before .before .before .before .before .before .before .before .pre .1) (c .before .before .before .before .before .before .loop .inv) (c .before .before .before .before .before .before .before .before .before .before .pre .0) (c .before .before .before .before .before .loop-test .taken) (c .before .before .block-fault .ensures) (c .before .if1 .left) (c .pixels2 .ensures))
+add-sum c =
+    let fault = c .before .before in
+    let now = turn fault in
+    omega (
+      arith,
+      passed-room (entry now .pre .1) (now .before .loop .inv) (entry now .pre .0) (now .loop-test .taken) (fault .block-fault .ensures)
+          (c .before .if1 .left) (c .pixels2 .ensures),
+    )
 
 add-i : tie.Need-add-i Inv-loop μ-loop
 add-i c = search needs
@@ -53,13 +73,23 @@ loop-less : tie.Need-loop-less Inv-loop μ-loop
 loop-less c = search needs
 
 loop-again : tie.Need-loop-again Inv-loop μ-loop
-loop-again c = passed-more (c .before .before .before .before .before .before .before .before .before .before .pre .1) (c .before .before .before .before .before .before .loop .inv) (c .before .before .before .before .before .before .before .before .before .before .pre .0) (c .before .before .before .before .before .loop-test .taken) (c .before .before .block-fault .ensures) (c .before .if1 .left) (c .pixels2 .ensures)
+loop-again c =
+    let fault = c .before .before in
+    let now = turn fault in
+    passed-more (entry now .pre .1) (now .before .loop .inv) (entry now .pre .0) (now .loop-test .taken) (fault .block-fault .ensures)
+    (c .before .if1 .left) (c .pixels2 .ensures)
 
 returns-2 : tie.Need-returns-2 Inv-loop μ-loop
-returns-2 c = passed-short (c .before .before .before .before .before .before .pre .1) (c .before .before .loop .inv) (c .before .before .before .before .before .before .pre .0) (c .before .loop-test .left) (c .before .before .before .pixels .ensures) (c .if2 .taken)
+returns-2 c =
+    let past = c .before in
+    let start = past .before .before .before .before .before in
+    passed-short (start .pre .1) (past .before .loop .inv) (start .pre .0) (past .loop-test .left) (past .before .before .pixels .ensures) (c .if2 .taken)
 
 returns-3 : tie.Need-returns-3 Inv-loop μ-loop
-returns-3 c = passed-all (c .before .before .before .before .before .before .pre .1) (c .before .before .loop .inv) (c .before .before .before .before .before .before .pre .0) (c .before .loop-test .left) (c .before .before .before .pixels .ensures) (c .if2 .left)
+returns-3 c =
+    let past = c .before in
+    let start = past .before .before .before .before .before in
+    passed-all (start .pre .1) (past .before .loop .inv) (start .pre .0) (past .loop-test .left) (past .before .before .pixels .ensures) (c .if2 .left)
 
 pub cover-spec : {M : Type 1} → statement M
 cover-spec =

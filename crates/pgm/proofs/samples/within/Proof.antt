@@ -1,6 +1,6 @@
 -- The invariant: the samples left decide what all of them do. The measure: the bytes left.
 use Rattle.pgm.specs.Picture.{within}
-use Rattle.pgm.proofs.Places.{within-end, within-yes, within-no}
+use Rattle.pgm.proofs.Maxval.{within-end, within-yes, within-no}
 use mathlib.Core.Path.{_≡_, refl, sym, _∙_}
 use Prim.Native.Nat.{_-_}
 use native.Mathlib.Omega.{arith}
@@ -25,7 +25,7 @@ cast-if1 : tie.Need-cast-if1 Inv-loop μ-loop
 cast-if1 c = omega (arith, c .shared-slice-known .given (c .before .before .loop .at))
 
 returns : tie.Need-returns Inv-loop μ-loop
-returns c = sym (within-no _ _ (c .before .before .loop-test .taken) _ (c .if1 .taken)) ∙ c .before .before .before .loop .inv
+returns c = sym (within-no _ _ _ (c .before .before .loop-test .taken) (c .if1 .taken)) ∙ c .before .before .before .loop .inv
 
 add-at : tie.Need-add-at Inv-loop μ-loop
 add-at c = search needs
@@ -34,10 +34,10 @@ loop-less : tie.Need-loop-less Inv-loop μ-loop
 loop-less c = search needs
 
 loop-again : tie.Need-loop-again Inv-loop μ-loop
-loop-again c = sym (within-yes _ _ (c .before .before .loop-test .taken) _ (c .if1 .left)) ∙ c .before .before .before .loop .inv
+loop-again c = sym (within-yes _ _ _ (c .before .before .loop-test .taken) (c .if1 .left)) ∙ c .before .before .before .loop .inv
 
 returns-2 : tie.Need-returns-2 Inv-loop μ-loop
-returns-2 c = sym (within-end _ _ (c .loop-test .left) _) ∙ c .before .loop .inv
+returns-2 c = sym (within-end _ _ _ (c .loop-test .left)) ∙ c .before .loop .inv
 
 pub within-spec : {M : Type 1} → statement M
 within-spec =

@@ -1,6 +1,6 @@
 -- The last of all cycles ends a line, and any other one where the next owner is another region.
 use native.Mathlib.Omega.{arith}
-use Rattle.printing.specs.Held.{line-at-end, line-by-owners}
+use Rattle.printing.specs.LineEnds.{line-at-end, line-by-owners}
 use borrow.Author.Needs.{needs}
 use Rattle.printing.proofs.lines.ends_line.Statement.{statement}
 use Rattle.printing.proofs.lines.ends_line.Tie as tie

@@ -12,22 +12,34 @@ cast-n : tie.Need-cast-n
 cast-n c = search needs
 
 slice-write-text : tie.Need-slice-write-text
-slice-write-text c = omega (arith, end-room (c .before .before .before .before .before .before .before .before .pre) (c .before .before .before .before .svg .ensures), c .before .before .before .before .svg .kept .1 .0)
+slice-write-text c =
+    let called = c .before .before .before .before in
+    let start = called .before .before .before .before in
+    omega (arith, end-room (start .pre) (called .svg .ensures), called .svg .kept .1 .0)
 
 add-result : tie.Need-add-result
-add-result c = omega (arith, end-room (c .before .before .before .before .before .before .before .before .pre) (c .before .before .before .before .svg .ensures), c .before .before .before .before .before .before .before .before .good)
+add-result c =
+    let called = c .before .before .before .before in
+    let start = called .before .before .before .before in
+    omega (arith, end-room (start .pre) (called .svg .ensures), start .good)
 
 same-length : tie.Need-same-length
 same-length c = search needs
 
 returns : tie.Need-returns
-returns c = put-ended (c .before .before .before .before .before .before .before .before .pre) (c .before .before .before .before .svg .ensures) (c .if1 .taken)
+returns c =
+    let called = c .before .before .before .before in
+    let start = called .before .before .before .before in
+    put-ended (start .pre) (called .svg .ensures) (c .if1 .taken)
 
 same-length-2 : tie.Need-same-length-2
 same-length-2 c = search needs
 
 returns-2 : tie.Need-returns-2
-returns-2 c = put-plain (c .before .before .before .before .before .before .before .before .pre) (c .before .before .before .before .svg .ensures) (c .if1 .left)
+returns-2 c =
+    let called = c .before .before .before .before in
+    let start = called .before .before .before .before in
+    put-plain (start .pre) (called .svg .ensures) (c .if1 .left)
 
 pub put-cycle-spec : {M : Type 1} → statement M
 put-cycle-spec =

@@ -38,7 +38,13 @@ put-cycle-requires : tie.Need-put-cycle-requires Inv-loop μ-loop
 put-cycle-requires c κs = one-cycle (c .before .before .before .before .loop .inv) (c .before .before .before .loop-test .taken) (c .before .before .cycle .ensures .corners-are)
 
 add-at : tie.Need-add-at Inv-loop μ-loop
-add-at c = omega (arith, put-short (c .before .before .before .before .before .before .before .loop .inv) (c .before .before .before .before .before .before .loop-test .taken) (c .before .before .before .before .before .cycle .ensures .corners-are) (c .before .before .before .before .ends-line .ensures) (c .before .before .put-cycle .ensures), c .before .before .before .before .before .before .before .loop .inv .long, c .before .before .before .before .before .before .before .before .before .before .before .before .good)
+add-at c =
+    let written = c .before .before in
+    let ended = written .before .before in
+    let handed = ended .before in
+    let head = handed .before .before in
+    let inside = put-short (head .loop .inv) (handed .before .loop-test .taken) (handed .cycle .ensures .corners-are) (ended .ends-line .ensures) (written .put-cycle .ensures) in
+    omega (arith, inside, head .loop .inv .long, head .before .before .before .before .before .good)
 
 add-k : tie.Need-add-k Inv-loop μ-loop
 add-k c = search needs
@@ -47,7 +53,12 @@ loop-less : tie.Need-loop-less Inv-loop μ-loop
 loop-less c = search needs
 
 loop-again : tie.Need-loop-again Inv-loop μ-loop
-loop-again c = turn (c .before .before .before .before .before .before .before .loop .inv) (c .before .before .before .before .before .before .loop-test .taken) (c .before .before .before .before .before .cycle .ensures .corners-are) (c .before .before .before .before .ends-line .ensures) (c .before .before .put-cycle .ensures)
+loop-again c =
+    let written = c .before .before in
+    let ended = written .before .before in
+    let handed = ended .before in
+    let head = handed .before .before in
+    turn (head .loop .inv) (handed .before .loop-test .taken) (handed .cycle .ensures .corners-are) (ended .ends-line .ensures) (written .put-cycle .ensures)
 
 same-length : tie.Need-same-length Inv-loop μ-loop
 same-length c = c .before .loop .inv .long

@@ -8,10 +8,10 @@ use Rattle.printing.proofs.picture.write_outlines.Tie as tie
 
 returns : tie.Need-returns
 returns c =
-    let start = c .before .before .before .before .before .before .before .before .before .before .before .before .before .before .before .before .before .before .before .before .before .before in
-    let trace = c .before .before .before .before .before .before .before .before .before .before .before .before .trace in
+    let traced = c .before .before .before .before .before .before .before .before .before .before .before .before in
+    let start = traced .before .before .before .before .before .before .before .before .before .before in
     drawn (omega (arith, start .pre .low))
-    (outlined (start .pre) (trace .ensures) (omega arith) (omega arith) (omega arith) (omega arith) (omega arith)) (c .before .before .write .ensures)
+    (outlined (start .pre) (traced .trace .ensures) (omega arith) (omega arith) (omega arith) (omega arith) (omega arith)) (c .before .before .write .ensures)
 
 slice-aggregate-trace : tie.Need-slice-aggregate-trace
 slice-aggregate-trace c = search needs
@@ -42,10 +42,10 @@ slice-aggregate-write-3 c = search needs
 
 write-requires : tie.Need-write-requires
 write-requires c κs =
-    let start = c .before .before .before .before .before .before .before .before .before .before .before .before .before .before .before .before .before .before .before in
-    let trace = c .before .before .before .before .before .before .before .before .before .trace in
+    let traced = c .before .before .before .before .before .before .before .before .before in
+    let start = traced .before .before .before .before .before .before .before .before .before .before in
     drawable (omega (arith, start .pre .low))
-    (outlined (start .pre) (trace .ensures) (omega arith) (omega arith) (omega arith) (omega arith) (omega arith)) (start .pre .enough)
+    (outlined (start .pre) (traced .trace .ensures) (omega arith) (omega arith) (omega arith) (omega arith) (omega arith)) (start .pre .enough)
 
 same-length : tie.Need-same-length
 same-length c = search needs

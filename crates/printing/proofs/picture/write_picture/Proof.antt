@@ -25,24 +25,31 @@ array-share-prefix-codes : tie.Need-array-share-prefix-codes
 array-share-prefix-codes c = count-in-codes (c .before .before .before .before .from-raster .ensures)
 
 slice-aggregate-write-outlines : tie.Need-slice-aggregate-write-outlines
-slice-aggregate-write-outlines c = omega (arith, length-take (c .before .before .before .before .before .from-raster .result .count) (c .before .before .before .before .before .from-raster .last .1 .1 .0), count-in-codes (c .before .before .before .before .before .from-raster .ensures))
+slice-aggregate-write-outlines c =
+    let merging = c .before .before .before .before .before .from-raster in
+    omega (arith, length-take (merging .result .count) (merging .last .1 .1 .0), count-in-codes (merging .ensures))
 
 array-share-prefix-levels : tie.Need-array-share-prefix-levels
 array-share-prefix-levels c = count-in-levels (c .before .before .before .before .before .from-raster .ensures)
 
 slice-aggregate-write-outlines-2 : tie.Need-slice-aggregate-write-outlines-2
-slice-aggregate-write-outlines-2 c = omega (arith, length-take (c .before .before .before .before .before .before .from-raster .result .count) (c .before .before .before .before .before .before .from-raster .last .1 .1 .1 .0), count-in-levels (c .before .before .before .before .before .before .from-raster .ensures))
+slice-aggregate-write-outlines-2 c =
+    let merging = c .before .before .before .before .before .before .from-raster in
+    omega (arith, length-take (merging .result .count) (merging .last .1 .1 .1 .0), count-in-levels (merging .ensures))
 
 array-share-prefix-colours : tie.Need-array-share-prefix-colours
 array-share-prefix-colours c = count-in-colours (c .before .before .before .before .before .before .from-raster .ensures)
 
 slice-aggregate-write-outlines-3 : tie.Need-slice-aggregate-write-outlines-3
-slice-aggregate-write-outlines-3 c = omega (arith, length-take (c .before .before .before .before .before .before .before .from-raster .result .count) (c .before .before .before .before .before .before .before .from-raster .last .1 .1 .1 .1 .0), count-in-colours (c .before .before .before .before .before .before .before .from-raster .ensures))
+slice-aggregate-write-outlines-3 c =
+    let merging = c .before .before .before .before .before .before .before .from-raster in
+    omega (arith, length-take (merging .result .count) (merging .last .1 .1 .1 .1 .0), count-in-colours (merging .ensures))
 
 write-outlines-requires : tie.Need-write-outlines-requires
 write-outlines-requires c κs =
-    let start = c .before .before .before .before .before .before .before .before .before .before .before .before .before .before in
-    let merging = c .before .before .before .before .before .before .before .before .from-raster in
+    let merged = c .before .before .before .before .before .before .before .before in
+    let start = merged .before .before .before .before .before .before in
+    let merging = merged .from-raster in
     let t = merged-traceable (start .pre) (merging .ensures) (omega arith) (omega arith) (omega arith) (omega (arith, merging .kept .1 .1 .0)) in
     record { low = t .low; few = t .few; accepted = omega (arith, t .accepted); enough = t .enough }
 
@@ -50,7 +57,10 @@ same-length : tie.Need-same-length
 same-length c = search needs
 
 returns : tie.Need-returns
-returns c = merged-drawn (c .before .before .before .before .before .before .before .before .before .before .before .before .before .before .before .before .before .pre) (c .before .before .before .before .before .before .before .before .before .before .before .from-raster .ensures) (omega arith) (omega arith) (omega arith) (c .before .before .write-outlines .ensures)
+returns c =
+    let merged = c .before .before .before .before .before .before .before .before .before .before .before in
+    let start = merged .before .before .before .before .before .before in
+    merged-drawn (start .pre) (merged .from-raster .ensures) (omega arith) (omega arith) (omega arith) (c .before .before .write-outlines .ensures)
 
 pub write-picture-spec : {M : Type 1} → statement M
 write-picture-spec =

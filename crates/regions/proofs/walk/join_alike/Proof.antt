@@ -1,5 +1,5 @@
 -- Blocks of one colour are joined; where that is done already, or the colours differ, nothing changes.
-use Rattle.regions.specs.Sides.{done-kept, joined-alike, kept-unlike}
+use Rattle.components.specs.Spans.{alike-forest, unlike-forest, done-kept}
 use borrow.Author.Needs.{needs}
 use Rattle.regions.proofs.walk.join_alike.Statement.{statement}
 use Rattle.regions.proofs.walk.join_alike.Tie as tie
@@ -23,13 +23,14 @@ same-length c = search needs
 
 returns-2 : tie.Need-returns-2
 returns-2 c =
-    let a = c .before .before .before .before .before .before .before .before .before .before .args in
-    joined-alike (a .colours .now) (a .b) (a .k) (c .before .before .before .before .if2 .taken) (c .before .before .join .ensures)
+    let t = c .before .before .before .before in
+    let a = t .before .before .before .before .before .before .args in
+    alike-forest (a .colours .now) (a .b) (a .k) (t .if2 .taken) (c .before .before .join .ensures)
 
 returns-3 : tie.Need-returns-3
 returns-3 c =
     let s = c .before .before .before .before .before .before in
-    kept-unlike (s .args .colours .now) (s .args .b) (s .args .k) (s .pre .low) (c .if2 .left)
+    unlike-forest (s .args .colours .now) (s .args .b) (s .args .k) (c .if2 .left) (s .pre .low)
 
 pub join-alike-spec : {M : Type 1} → statement M
 join-alike-spec =

@@ -5,7 +5,7 @@ use lib.ListN.{getD}
 use Rattle.unions.specs.Pairs.{Pair}
 use Rattle.components.specs.BlockPairs.{spanPairs}
 use Rattle.components.specs.Spans.{none-at-edge, all-inside}
-use Rattle.regions.specs.Sides.{one-joinable, one-joined}
+use Rattle.regions.specs.BorderSpans.{one-joinable, one-joined}
 use borrow.Author.Needs.{needs}
 use Rattle.regions.proofs.walk.join_one.Statement.{statement}
 use Rattle.regions.proofs.walk.join_one.Tie as tie
@@ -25,16 +25,19 @@ shared-slice-read-b c =
     omega (arith, n .inside)
 
 join-alike-requires : tie.Need-join-alike-requires
-join-alike-requires c κs = one-joinable (c .before .before .before .before .before .before .pre .named (omega (arith, c .before .before .if1 .taken)))
+join-alike-requires c κs =
+    let t = c .before .before in
+    one-joinable (t .before .before .before .before .pre .named (omega (arith, t .if1 .taken)))
 
 same-length : tie.Need-same-length
 same-length c = search needs
 
 returns : tie.Need-returns
 returns c =
-    let s = c .before .before .before .before .before .before .before .before .before in
-    let away = c .before .before .before .before .before .if1 .taken in
-    all-inside (s .args .z) (pairs s) (omega (arith, away)) (one-joined (s .pre .named (omega (arith, away))) (c .before .before .join-alike .ensures))
+    let t = c .before .before .before .before .before in
+    let s = t .before .before .before .before in
+    all-inside (s .args .z) (pairs s) (omega (arith, t .if1 .taken))
+    (one-joined (s .pre .named (omega (arith, t .if1 .taken))) (c .before .before .join-alike .ensures))
 
 returns-2 : tie.Need-returns-2
 returns-2 c = let s = c .before .before .before .before in none-at-edge (s .args .z) (pairs s) (omega (arith, c .if1 .left)) (s .pre .low)

@@ -1,7 +1,7 @@
 -- The loop's invariant: what holds of the walk after k blocks (roots, columns, rows). The measure: the blocks that are left.
-use Rattle.regions.specs.Walk.{Place, few-blocks, walk-begins, parents-kept, walk-ends, place, sides, storable, again}
+use Rattle.regions.specs.Walk.{LiesAt, few-blocks, walk-begins, parents-kept, walk-ends, lies-at, spans, storable, again}
 use Rattle.components.specs.Walk.{Walking}
-use Prim.Native.Nat.{_-_}
+use Prim.Native.Nat.{_-_, _<_}
 use native.Mathlib.Omega.{arith}
 use lib.ListN.{length}
 use borrow.Author.Needs.{needs}
@@ -14,19 +14,36 @@ Inv-loop n codes levels colours parents₀ work₀ w k₀ parents work k = Walki
 abbrev μ-loop : tie.MeasureT-loop
 μ-loop n codes levels colours parents₀ work₀ w k₀ parents work k = length codes - k
 
--- Where the turn is when the block's place is known: the function's entry, and the loop's head.
-abbrev entry : tie.After-side2 Inv-loop μ-loop → tie.Start Inv-loop μ-loop
-entry c = c .before .before .before .before .before .before .before .before .before .before .before .before .before .before
+-- The function's entry from the loop's head, the loop's head from where the block's place is known, and that from where the block is
+-- joined with its neighbours.
+abbrev entry : tie.At-loop Inv-loop μ-loop → tie.Start Inv-loop μ-loop
+entry h = h .before .before .before .before .before .before .before
+
+abbrev tested : tie.After-side2 Inv-loop μ-loop → tie.In-loop Inv-loop μ-loop
+tested c = c .before .before .before .before .before .before
 
 abbrev head : tie.After-side2 Inv-loop μ-loop → tie.At-loop Inv-loop μ-loop
-head c = c .before .before .before .before .before .before .before
+head c = tested c .before
+
+abbrev placed : tie.After-join-spans Inv-loop μ-loop → tie.After-side2 Inv-loop μ-loop
+placed c = c .before .before .before
+
+abbrev column : tie.After-side2 Inv-loop μ-loop → tie.After-column Inv-loop μ-loop
+column c = c .before .before .before .before
+
+abbrev row : tie.After-side2 Inv-loop μ-loop → tie.After-row Inv-loop μ-loop
+row c = c .before .before
 
 here : (c : tie.After-side2 Inv-loop μ-loop)
-    → Place (entry c .args .n) (entry c .args .codes .now) (entry c .args .levels .now) (head c .loop .k) (head c .before .side .result)
-    (c .before .before .before .before .column .result) (c .before .before .row .result) (c .side2 .result)
+    → LiesAt (entry (head c) .args .n) (entry (head c) .args .codes .now) (entry (head c) .args .levels .now) (head c .loop .k)
+    (head c .before .side .result) (column c .column .result) (row c .row .result) (c .side2 .result)
 here c =
-    place (entry c .pre .passes) (head c .loop .inv) (c .before .before .before .before .before .before .loop-test .taken) (head c .before .side .ensures) (c .before .before .before .before .column .ensures)
-    (c .before .before .row .ensures) (c .side2 .ensures)
+    lies-at (entry (head c) .pre .passes) (head c .loop .inv) (tested c .loop-test .taken) (head c .before .side .ensures)
+    (column c .column .ensures) (row c .row .ensures) (c .side2 .ensures)
+
+-- A block's place fits 32 bits.
+place-fits : (c : tie.After-side2 Inv-loop μ-loop) → head c .loop .k < 65537
+place-fits c = omega (arith, tested c .loop-test .taken, few-blocks (entry (head c) .pre .passes))
 
 side-requires : tie.Need-side-requires Inv-loop μ-loop
 side-requires c κs = search needs
@@ -67,17 +84,21 @@ cast-side c = omega (arith, c .shared-slice-known6 .given (c .before .before .be
 side-requires-2 : tie.Need-side-requires-2 Inv-loop μ-loop
 side-requires-2 c κs = search needs
 
-cast-join-sides : tie.Need-cast-join-sides Inv-loop μ-loop
-cast-join-sides c = omega (arith, c .before .before .before .before .before .before .before .loop-test .taken, few-blocks (c .before .before .before .before .before .before .before .before .before .before .before .before .before .before .before .pre .passes))
+cast-join-spans : tie.Need-cast-join-spans Inv-loop μ-loop
+cast-join-spans c = omega (arith, place-fits (c .before))
 
-join-sides-requires : tie.Need-join-sides-requires Inv-loop μ-loop
-join-sides-requires c κs = sides (c .before .before .before .before .before .before .before .before .before .before .before .before .before .before .before .before .pre .passes) (c .before .before .before .before .before .before .before .before .before .loop .inv) (c .before .before .before .before .before .before .before .before .loop-test .taken) (here (c .before .before))
+join-spans-requires : tie.Need-join-spans-requires Inv-loop μ-loop
+join-spans-requires c κs =
+    let p = c .before .before in
+    spans (entry (head p) .pre .passes) (head p .loop .inv) (tested p .loop-test .taken) (here p)
 
 cast-store : tie.Need-cast-store Inv-loop μ-loop
-cast-store c = omega (arith, c .before .before .before .before .before .before .before .before .before .before .before .before .loop-test .taken, few-blocks (c .before .before .before .before .before .before .before .before .before .before .before .before .before .before .before .before .before .before .before .before .pre .passes))
+cast-store c = omega (arith, place-fits (placed (c .before .before .before)))
 
 store-requires : tie.Need-store-requires Inv-loop μ-loop
-store-requires c κs = storable (c .before .before .before .before .before .before .before .before .before .before .before .before .before .before .before .before .before .before .before .before .pre .passes) (c .before .before .before .before .before .before .before .before .before .before .before .before .before .loop .inv) (c .before .before .before .before .before .before .before .before .before .before .before .before .loop-test .taken) (here (c .before .before .before .before .before .before))
+store-requires c κs =
+    let p = placed (c .before .before .before) in
+    storable (entry (head p) .pre .passes) (head p .loop .inv) (tested p .loop-test .taken) (here p)
 
 add-k : tie.Need-add-k Inv-loop μ-loop
 add-k c = search needs
@@ -86,10 +107,14 @@ loop-less : tie.Need-loop-less Inv-loop μ-loop
 loop-less c = search needs
 
 loop-again : tie.Need-loop-again Inv-loop μ-loop
-loop-again c = again (c .before .before .before .before .before .before .before .before .before .before .before .before .before .before .before .before .before .before .before .before .before .before .before .pre .passes) (c .before .before .before .before .before .before .before .before .before .before .before .before .before .before .before .before .loop .inv) (c .before .before .before .before .before .before .before .before .before .before .before .before .before .before .before .loop-test .taken) (here (c .before .before .before .before .before .before .before .before .before)) (c .before .before .before .before .before .before .join-sides .ensures) (c .before .before .store .ensures)
+loop-again c =
+    let stored = c .before .before in
+    let joined = stored .before .before .before .before in
+    let p = placed joined in
+    again (entry (head p) .pre .passes) (head p .loop .inv) (tested p .loop-test .taken) (here p) (joined .join-spans .ensures) (stored .store .ensures)
 
 same-length : tie.Need-same-length Inv-loop μ-loop
-same-length c = parents-kept (c .before .before .before .before .before .before .before .before .pre) (c .before .loop .inv)
+same-length c = parents-kept (entry (c .before) .pre) (c .before .loop .inv)
 
 same-length-2 : tie.Need-same-length-2 Inv-loop μ-loop
 same-length-2 c = search needs
@@ -116,8 +141,8 @@ walk-spec =
     shared-slice-read-side
     cast-side
     side-requires-2
-    cast-join-sides
-    join-sides-requires
+    cast-join-spans
+    join-spans-requires
     cast-store
     store-requires
     add-k

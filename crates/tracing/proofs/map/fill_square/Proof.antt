@@ -1,6 +1,5 @@
 -- One entry is written at once. The loop's invariant: y rows are filled, and all other entries are as they were.
-use Rattle.tracing.specs.Filling.{entry-filled}
-use Rattle.blocks.specs.Filling.{RowsDone, rows-done-none, row-fits, rows-done-more, rows-done-all}
+use Rattle.squares.specs.Filling.{one-filled, RowsDone, rows-done-none, row-fits, rows-done-more, rows-done-all}
 use Prim.Native.Nat.{_-_}
 use native.Mathlib.Omega.{arith}
 use borrow.Author.Needs.{needs}
@@ -13,6 +12,16 @@ Inv-loop map₀ w at s v from₀ y₀ map from y = RowsDone w at s y v from map�
 abbrev μ-loop : tie.MeasureT-loop
 μ-loop map₀ w at s v from₀ y₀ map from y = s - y
 
+-- ---- the places
+
+abbrev entry : tie.At-loop Inv-loop μ-loop → tie.Start Inv-loop μ-loop
+entry c = c .before .before .before
+
+abbrev turn : tie.After-slice-known2 Inv-loop μ-loop → tie.In-loop Inv-loop μ-loop
+turn c = c .before .before .before .before
+
+-- ---- the needs
+
 mul-map : tie.Need-mul-map Inv-loop μ-loop
 mul-map c = omega (arith, c .before .before .pre .1 0 (omega (arith, c .if1 .taken)), c .if1 .taken, c .before .before .good)
 
@@ -23,16 +32,19 @@ same-length : tie.Need-same-length Inv-loop μ-loop
 same-length c = search needs
 
 returns : tie.Need-returns Inv-loop μ-loop
-returns c = entry-filled (c .if1 .taken) (omega (arith, c .before .before .pre .1 0 (omega (arith, c .if1 .taken)), c .if1 .taken))
+returns c = one-filled (c .if1 .taken) (omega (arith, c .before .before .pre .1 0 (omega (arith, c .if1 .taken)), c .if1 .taken))
 
 loop-holds : tie.Need-loop-holds Inv-loop μ-loop
 loop-holds c = rows-done-none
 
-fill-run-requires : tie.Need-fill-run-requires Inv-loop μ-loop
-fill-run-requires c κs = row-fits (c .before .before .before .before .before .pre .1) (c .before .before .loop .inv) (c .before .loop-test .taken)
+fill-requires : tie.Need-fill-requires Inv-loop μ-loop
+fill-requires c κs = row-fits (entry (c .before .before) .pre .1) (c .before .before .loop .inv) (c .before .loop-test .taken)
 
 add-from : tie.Need-add-from Inv-loop μ-loop
-add-from c = omega (arith, row-fits (c .before .before .before .before .before .before .before .before .pre .1) (c .before .before .before .before .before .loop .inv) (c .before .before .before .before .loop-test .taken), c .before .before .before .before .before .before .before .before .pre .0, c .before .before .before .before .before .before .before .before .good, c .before .before .before .before .before .loop .inv .filled .long)
+add-from c =
+    let d = turn c in
+    let l = d .before in
+    omega (arith, row-fits (entry l .pre .1) (l .loop .inv) (d .loop-test .taken), entry l .pre .0, entry l .good, l .loop .inv .filled .long)
 
 add-y : tie.Need-add-y Inv-loop μ-loop
 add-y c = search needs
@@ -41,7 +53,9 @@ loop-less : tie.Need-loop-less Inv-loop μ-loop
 loop-less c = search needs
 
 loop-again : tie.Need-loop-again Inv-loop μ-loop
-loop-again c = rows-done-more (c .before .before .before .before .before .before .before .before .pre .1) (c .before .before .before .before .before .loop .inv) (c .before .before .before .before .loop-test .taken) (c .before .before .fill-run .ensures)
+loop-again c =
+    let d = turn c in
+    rows-done-more (entry (d .before) .pre .1) (d .before .loop .inv) (d .loop-test .taken) (c .before .before .fill .ensures)
 
 same-length-2 : tie.Need-same-length-2 Inv-loop μ-loop
 same-length-2 c = c .before .loop .inv .filled .long
@@ -60,7 +74,7 @@ fill-square-spec =
     same-length
     returns
     loop-holds
-    fill-run-requires
+    fill-requires
     add-from
     add-y
     loop-less

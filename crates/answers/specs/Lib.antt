@@ -1,0 +1,3 @@
+-- The answers of writers.
+pub mod Put
+pub mod Answers

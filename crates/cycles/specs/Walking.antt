@@ -1,0 +1,295 @@
+-- The walk along one cycle that writes its corners and marks its eastward edges: what holds at the loop's head, and that a turn keeps it.
+use mathlib.Core.Path.{_≡_, refl, sym, ap, _∙_, subst}
+use mathlib.Core.Logic.{_≢_}
+use mathlib.Core.List.{List, [], _∷_, _++_, append-assoc, append-nil}
+use Prim.Native.Nat.{ℕ, zero, suc, _+_, _*_, _≤_, _<_}
+use native.Mathlib.Nat.{not-suc-le-zero}
+use native.Mathlib.Omega.{arith}
+use lib.ListN.{length, set, length-append, length-set}
+use Rattle.sequences.specs.Over.{over, over-none, over-push}
+use Rattle.lattice.specs.Directions.{point, edge, tail, digit}
+use Rattle.lattice.specs.Walks.{turns}
+use Rattle.lattice.specs.Corners.{turns-on, turns-turn}
+use Rattle.lattice.specs.Outlines.{tail-edge, digit-edge}
+use Rattle.orbits.specs.Orbits.{until, Returns}
+use Rattle.orbits.specs.StepsTo.{StepsTo, round, arrived, Further, further}
+use Rattle.grid.specs.Margins.{Margin}
+use Rattle.grid.specs.Steps.{Edge, step}
+use Rattle.grid.specs.Cycles.{edgeLimit, cycleFrom}
+use Rattle.grid.specs.Undoing.{digit-below-four, step-edge}
+use Rattle.grid.specs.Returning.{edge-returns}
+use Rattle.grid.specs.Closing.{others, cycle-first}
+use Rattle.steps.specs.Look.{mapAt, Square, at-margin}
+use Rattle.cycles.specs.Marks.{mark, marks, length-mark, map-kept}
+use Rattle.steps.specs.Rule.{Way, way}
+use Rattle.cycles.specs.Points.{EdgeAt}
+use Rattle.cycles.specs.Straight.{Straight, turning, straight-on, Gone}
+
+-- The corners of the cycle through the edge s of a map, whose direction differs from that of the edge before.
+unfoldable pub cornersFrom : (ℕ → ℕ → ℕ) → ℕ → List ℕ
+unfolding tail digit turns others
+cornersFrom m s = tail s ∷ turns (digit s) (others m s)
+
+-- The direction of the edge s of the region r differs from that of the edge before, and there is room for the corners of its cycle.
+pub record Ready (side r s : ℕ) (map out : List ℕ) : Type 0 where
+  pub square : Square side map
+  pub on-region : Edge (mapAt side map) r s
+  pub room : length (cornersFrom (mapAt side map) s) ≤ length out
+  pub corner : (e : ℕ) → Edge (mapAt side map) r e → step (mapAt side map) e ≡ s → digit e ≢ digit s
+
+-- They are written, and the eastward edges of the cycle are marked.
+pub record CycleWalked (side r s : ℕ) (map out map′ out′ : List ℕ) (k : ℕ) : Type 0 where
+  pub count : k ≡ length (cornersFrom (mapAt side map) s)
+  pub list : out′ ≡ over (cornersFrom (mapAt side map) s) out
+  pub marked : map′ ≡ marks side r (cycleFrom (mapAt side map) s) map
+
+one-less : {x : ℕ} {l t : List ℕ} → l ≡ x ∷ t → length t < length l
+one-less {x} {l} {t} e = omega (arith, ap length e)
+
+-- What is left of the cycle from e, where s ends it.
+unfoldable pub rest : (ℕ → ℕ → ℕ) → ℕ → ℕ → List ℕ
+unfolding until step
+rest m s e = until edgeLimit (step m) s e
+
+-- On the way at the edge e: `used` corners are written, and d is the digit before the edges `todo` that are left. From the edge `from`
+-- on `left` steps lead back to s.
+pub record CycleUnderway (side r s : ℕ) (map₀ out₀ map out : List ℕ) (used d e from : ℕ) (todo : List ℕ) : Type 0 where
+  pub left : ℕ
+  pub ahead : StepsTo (step (mapAt side map₀)) s from left
+  pub enough : left ≤ edgeLimit
+  pub on-region : Edge (mapAt side map₀) r e
+  pub same-map : mapAt side map ≡ mapAt side map₀
+  pub long : length map ≡ length map₀
+  pub wide : length out ≡ length out₀
+  pub done : List ℕ
+  pub so-far : used ≡ length done
+  pub list : out ≡ over done out₀
+  pub total : done ++ turns d todo ≡ cornersFrom (mapAt side map₀) s
+  pub marked : marks side r todo map ≡ marks side r (cycleFrom (mapAt side map₀) s) map₀
+
+-- Before the edge e is done: a corner is due at its tail where d is not its digit. d is the digit before it, 4 at the start, and e's own
+-- once its corner is written.
+abbrev pub AtEdge : ℕ → ℕ → ℕ → List ℕ → List ℕ → List ℕ → List ℕ → ℕ → ℕ → ℕ → Type 0
+AtEdge side r s map₀ out₀ map out used d e =
+    let next : ℕ = step (mapAt side map₀) e in
+    CycleUnderway side r s map₀ out₀ map out used d e next (e ∷ rest (mapAt side map₀) s next)
+
+-- After an edge: e is the next one.
+abbrev pub PastEdge : ℕ → ℕ → ℕ → List ℕ → List ℕ → List ℕ → List ℕ → ℕ → ℕ → ℕ → Type 0
+PastEdge side r s map₀ out₀ map out used d e = CycleUnderway side r s map₀ out₀ map out used d e e (rest (mapAt side map₀) s e)
+
+module _ {side r s : ℕ} {map₀ out₀ : List ℕ} (ready : Ready side r s map₀ out₀) where
+  margin-here : Margin (mapAt side map₀)
+  margin-here = at-margin side map₀ (ready .square .small)
+
+  begin : AtEdge side r s map₀ out₀ map₀ out₀ 0 4 s
+  unfolding rest cornersFrom others
+  begin = from (edge-returns (mapAt side map₀) margin-here r s (ready .on-region))
+    where
+      from : (k : ℕ) × (k ≤ edgeLimit) × Returns (step (mapAt side map₀)) s k → AtEdge side r s map₀ out₀ map₀ out₀ 0 4 s
+      from (zero, h, t) = absurd (not-suc-le-zero (t .positive))
+      from (suc k, h, t) = record {
+        left = k;
+        ahead = round (step (mapAt side map₀)) s k t;
+        enough = omega arith;
+        on-region = ready .on-region;
+        same-map = refl;
+        long = refl;
+        wide = refl;
+        done = [];
+        so-far = refl;
+        list = sym (over-none out₀);
+        total = turns-turn 4 s (others (mapAt side map₀) s) (omega (arith, digit-below-four s));
+        marked = ap (λ l. marks side r l map₀) (sym (cycle-first (mapAt side map₀) s));
+      }
+
+  module _ {map out : List ℕ} {used d e : ℕ} (g : AtEdge side r s map₀ out₀ map out used d e) where
+    next : List ℕ
+    next = rest (mapAt side map₀) s (step (mapAt side map₀) e)
+
+    square-here : Square side map
+    square-here = record { small = ready .square .small; room = omega (arith, ready .square .room, g .long) }
+
+    edge-here : Edge (mapAt side map) r e
+    edge-here = subst (λ m. Edge m r e) (sym (g .same-map)) (g .on-region)
+
+    -- Room for one corner more, where one is due.
+    room-here : d ≢ digit e → used < length out
+    unfolding next
+    room-here n =
+        let l : length (g .done ++ tail e ∷ turns (digit e) next) ≡ length (cornersFrom (mapAt side map₀) s) =
+        ap (λ t. length (g .done ++ t)) (sym (turns-turn d e next n)) ∙ ap length (g .total) in
+        let a : length (g .done) < length out₀ = omega (arith, l, ready .room, length-append (g .done) (tail e ∷ turns (digit e) next)) in
+        omega (arith, a, g .wide, g .so-far)
+
+    -- The corner is written.
+    push : d ≢ digit e → AtEdge side r s map₀ out₀ map (set out used (tail e)) (used + 1) (digit e) e
+    unfolding next
+    push n = record {
+      left = g .left;
+      ahead = g .ahead;
+      enough = g .enough;
+      on-region = g .on-region;
+      same-map = g .same-map;
+      long = g .long;
+      wide = length-set out used (tail e) ∙ g .wide;
+      done = g .done ++ (tail e ∷ []);
+      so-far = omega (arith, length-append (g .done) (tail e ∷ []), g .so-far);
+      list = ap (λ t. set t used (tail e)) (g .list) ∙ over-push (g .done) out₀ (tail e) used (g .so-far) (omega (arith, room-here n, g .wide));
+      total = ap (λ t. (g .done ++ (tail e ∷ [])) ++ t) (turns-on (digit e) e next refl)
+          ∙ append-assoc (g .done) (tail e ∷ []) (turns (digit e) next) ∙ ap (λ t. g .done ++ t) (sym (turns-turn d e next n)) ∙ g .total;
+      marked = g .marked;
+    }
+
+    -- The edge is marked, and no corner is due at its tail.
+    pass : {map′ : List ℕ} {e′ : ℕ} → d ≡ digit e → map′ ≡ mark side r map e → e′ ≡ step (mapAt side map₀) e → PastEdge side r s map₀ out₀ map′ out used d e′
+    unfolding next marks
+    pass {map′} {e′} same hm here = record {
+      left = g .left;
+      ahead = rw here (g .ahead);
+      enough = g .enough;
+      on-region = rw here (step-edge (mapAt side map₀) margin-here r e (g .on-region));
+      same-map = ap (mapAt side) hm ∙ map-kept square-here e edge-here ∙ g .same-map;
+      long = ap length hm ∙ length-mark side r map e ∙ g .long;
+      wide = g .wide;
+      done = g .done;
+      so-far = g .so-far;
+      list = g .list;
+      total = rw here (ap (λ t. g .done ++ t) (sym (turns-on d e next same)) ∙ g .total);
+      marked = rw (here, hm) (g .marked);
+    }
+
+  module _ {map out : List ℕ} {used d e : ℕ} (p : PastEdge side r s map₀ out₀ map out used d e) where
+    more : e ≢ s → Further (step (mapAt side map₀)) s edgeLimit e (p .left)
+    more n = further (step (mapAt side map₀)) s edgeLimit e (p .left) (p .enough) n (p .ahead)
+
+    again : e ≢ s → AtEdge side r s map₀ out₀ map out used d e
+    unfolding rest
+    again n =
+        let f : Further (step (mapAt side map₀)) s edgeLimit e (p .left) = more n in
+        record {
+          left = f .left;
+          ahead = f .ahead;
+          enough = omega (arith, f .less, p .enough);
+          on-region = p .on-region;
+          same-map = p .same-map;
+          long = p .long;
+          wide = p .wide;
+          done = p .done;
+          so-far = p .so-far;
+          list = p .list;
+          total = ap (λ t. p .done ++ turns d t) (sym (f .list)) ∙ p .total;
+          marked = ap (λ t. marks side r t map) (sym (f .list)) ∙ p .marked;
+        }
+
+    -- What is left gets shorter.
+    less : e ≢ s → length (rest (mapAt side map₀) s (step (mapAt side map₀) e)) < length (rest (mapAt side map₀) s e)
+    unfolding rest
+    less n = one-less (more n .list)
+
+    finish : e ≡ s → CycleWalked side r s map₀ out₀ map out used
+    unfolding rest turns marks
+    finish h =
+        let z : until edgeLimit (step (mapAt side map₀)) s e ≡ [] = arrived (step (mapAt side map₀)) s edgeLimit e h in
+        let t : p .done ≡ cornersFrom (mapAt side map₀) s = sym (append-nil (p .done)) ∙ ap (λ l. p .done ++ turns d l) (sym z) ∙ p .total in
+        record {
+          count = p .so-far ∙ ap length t;
+          list = p .list ∙ ap (λ l. over l out₀) t;
+          marked = ap (λ l. marks side r l map) (sym z) ∙ p .marked;
+        }
+
+  -- Straight on from the edge e, whose corner is written.
+  record Through (map′ out : List ℕ) (used d e e′ : ℕ) : Type 0 where
+    pub passed : PastEdge side r s map₀ out₀ map′ out used d e′
+    pub turned : d ≢ digit e′
+    pub shorter : e′ ≢ s → length (rest (mapAt side map₀) s (step (mapAt side map₀) e′)) < length (rest (mapAt side map₀) s (step (mapAt side map₀) e))
+
+  through : {map map′ out : List ℕ} {used d e e′ : ℕ} → Straight side r (mapAt side map₀) map′ e′ map e → d ≡ digit e
+      → AtEdge side r s map₀ out₀ map out used d e → Through map′ out used d e e′
+  through {map} {map′} {out} {used} {d} {e} {e′} (turning hm here n) same g =
+      let p : PastEdge side r s map₀ out₀ map′ out used d e′ = pass g same hm here in
+      record {
+        passed = p;
+        turned = λ h. n (sym h ∙ same);
+        shorter = λ o. subst (λ a. length (rest (mapAt side map₀) s (step (mapAt side map₀) e′)) < length (rest (mapAt side map₀) s a)) here (less p o);
+      }
+  through {map} {map′} {out} {used} {d} {e} {e′} (straight-on straight more) same g =
+      let p : PastEdge side r s map₀ out₀ (mark side r map e) out used d (step (mapAt side map₀) e) = pass g same refl refl in
+      let o : step (mapAt side map₀) e ≢ s = λ h. ready .corner e (g .on-region) h (sym straight ∙ ap digit h) in
+      let t : Through map′ out used d (step (mapAt side map₀) e) e′ = through more (same ∙ sym straight) (again p o) in
+      record {
+        passed = t .passed;
+        turned = t .turned;
+        shorter = λ n. omega (arith, t .shorter n, less p o);
+      }
+
+-- At the loop's head: a corner is due at (x, y), where the edge with the digit d begins.
+pub record CornerDue (side r s : ℕ) (map₀ out₀ map out : List ℕ) (used x y d : ℕ) : Type 0 where
+  pub x-low : x < 512
+  pub low : d < 4
+  pub before : ℕ
+  pub due : before ≢ d
+  pub going : AtEdge side r s map₀ out₀ map out used before (edge (point x y) d)
+
+module _ {side r s : ℕ} {map₀ out₀ map out : List ℕ} {used x y d : ℕ} (ready : Ready side r s map₀ out₀) (w : CornerDue side r s map₀ out₀ map out used x y d) where
+  corner-due : w .before ≢ digit (edge (point x y) d)
+  corner-due h = w .due (h ∙ digit-edge (point x y) d (w .low))
+
+  pub due-room : used < length out
+  due-room = room-here ready (w .going) corner-due
+
+  pub due-at : EdgeAt side r map x y d
+  due-at = record { square = square-here ready (w .going); x-low = w .x-low; low = w .low; on-region = edge-here ready (w .going) }
+
+-- What is left of the cycle after the edge.
+unfoldable pub leftAfter : ℕ → ℕ → List ℕ → ℕ → ℕ → ℕ → ℕ
+unfolding rest step edge point mapAt
+leftAfter side s map x y d = length (rest (mapAt side map) s (step (mapAt side map) (edge (point x y) d)))
+
+-- After one turn of the loop, before the test for the start (column, row).
+pub record OneCornerMore (side r column row : ℕ) (map₀ out₀ map out : List ℕ) (used x y d x′ y′ d′ : ℕ) : Type 0 where
+  pub low : 4 * (512 * y′ + x′) + d′ < 1048576
+  pub long : length map ≡ length map₀
+  pub wide : length out ≡ length out₀
+  pub ends : 4 * (512 * y′ + x′) + d′ ≡ 4 * (512 * row + column) → CycleWalked side r (edge (point column row) 0) map₀ out₀ map out used
+  pub again : 4 * (512 * y′ + x′) + d′ ≢ 4 * (512 * row + column) → CornerDue side r (edge (point column row) 0) map₀ out₀ map out used x′ y′ d′
+  pub shorter : 4 * (512 * y′ + x′) + d′ ≢ 4 * (512 * row + column) → leftAfter side (edge (point column row) 0) map₀ x′ y′ d′ < leftAfter side (edge (point column row) 0) map₀ x y d
+
+at-start : (column row x y d : ℕ) → 4 * (512 * y + x) + d ≡ 4 * (512 * row + column) → edge (point x y) d ≡ edge (point column row) 0
+unfolding edge point
+at-start column row x y d h = omega arith
+
+not-at-start : (column row x y d : ℕ) → 4 * (512 * y + x) + d ≢ 4 * (512 * row + column) → edge (point x y) d ≢ edge (point column row) 0
+unfolding edge point
+not-at-start column row x y d n h = n (omega arith)
+
+module _ {side r : ℕ} (column row : ℕ) {map₀ out₀ : List ℕ} (ready : Ready side r (edge (point column row) 0) map₀ out₀) where
+  pub due-at-start : column < 512 → CornerDue side r (edge (point column row) 0) map₀ out₀ map₀ out₀ 0 column row 0
+  due-at-start h = record { x-low = h; low = omega arith; before = 4; due = omega arith; going = begin ready }
+
+  pub start-low : column < 512 → Way column row 0
+  start-low h = way (mapAt side map₀) (at-margin side map₀ (ready .square .small)) r column row 0 h (omega arith) (ready .on-region)
+
+  module _ {map out : List ℕ} {used x y d : ℕ} (w : CornerDue side r (edge (point column row) 0) map₀ out₀ map out used x y d) where
+    pub one-corner-more : {map′ : List ℕ} {x′ y′ d′ : ℕ} → Gone side r map x y d map′ x′ y′ d′
+        → OneCornerMore side r column row map₀ out₀ map′ (set out used (point x y)) (used + 1) x y d x′ y′ d′
+    unfolding leftAfter
+    one-corner-more {map′} {x′} {y′} {d′} gone =
+        let t : Through ready map′ (set out used (point x y)) (used + 1) (digit (edge (point x y) d)) (edge (point x y) d) (edge (point x′ y′) d′) =
+        through ready (subst (λ m. Straight side r m map′ (edge (point x′ y′) d′) map (edge (point x y) d)) (w .going .same-map) (gone .straight)) refl
+        (subst (λ p. AtEdge side r (edge (point column row) 0) map₀ out₀ map (set out used p) (used + 1) (digit (edge (point x y) d)) (edge (point x y) d))
+        (tail-edge (point x y) d (w .low)) (push ready (w .going) (corner-due ready w))) in
+        record {
+          low = omega (arith, gone .x-low, gone .y-low, gone .low);
+          long = t .passed .long;
+          wide = t .passed .wide;
+          ends = λ h. finish ready (t .passed) (at-start column row x′ y′ d′ h);
+          again = λ n. record {
+            x-low = omega (arith, gone .x-low);
+            low = gone .low;
+            before = digit (edge (point x y) d);
+            due = λ h. t .turned (h ∙ sym (digit-edge (point x′ y′) d′ (gone .low)));
+            going = again ready (t .passed) (not-at-start column row x′ y′ d′ n);
+          };
+          shorter = λ n. t .shorter (not-at-start column row x′ y′ d′ n);
+        }

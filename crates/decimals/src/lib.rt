@@ -1,0 +1,1 @@
+// Numbers in decimal digits: theory only.

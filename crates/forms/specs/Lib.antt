@@ -1,0 +1,2 @@
+-- The test of cycle form.
+pub mod Scan

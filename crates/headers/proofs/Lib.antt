@@ -1,0 +1,3 @@
+-- Laws that several proofs share.
+pub mod Places
+pub mod Digits

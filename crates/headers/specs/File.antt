@@ -1,0 +1,43 @@
+-- A file by its layout: "P5, white space, width, white space, height, white space, maxval, one white space byte" and what follows.
+use mathlib.Core.Path.{_≡_}
+use mathlib.Core.Bool.{Bool, true}
+use mathlib.Core.List.{List, [], _∷_, _++_}
+use Prim.Native.Nat.{ℕ, _≤_}
+use lib.ListN.{length}
+use Rattle.headers.specs.Space.{isSpace}
+use Rattle.headers.specs.Number.{isDigit, decimalValue}
+use Rattle.headers.specs.Header.{Fields}
+
+-- Each byte of a list passes a test.
+pub data Each (test : ℕ → Bool) : List ℕ → Type 0 where
+  none : Each test []
+  more : {b : ℕ} {bytes : List ℕ} → test b ≡ true → Each test bytes → Each test (b ∷ bytes)
+
+-- "White space is one or more of blank, tab, LF, CR."
+pub record White (bytes : List ℕ) : Type 0 where
+  pub some : 1 ≤ length bytes
+  pub each : Each isSpace bytes
+
+-- "A number has 1 to 5 digits."
+pub record Numeral (bytes : List ℕ) (value : ℕ) : Type 0 where
+  pub some : 1 ≤ length bytes
+  pub few : length bytes ≤ 5
+  pub each : Each isDigit bytes
+  pub worth : decimalValue 0 bytes ≡ value
+
+pub record File (bytes : List ℕ) (f : Fields) (raster : List ℕ) : Type 0 where
+  pub white1 : List ℕ
+  pub width : List ℕ
+  pub white2 : List ℕ
+  pub height : List ℕ
+  pub white3 : List ℕ
+  pub maxval : List ℕ
+  pub last : ℕ
+  pub layout : bytes ≡ 80 ∷ 53 ∷ (white1 ++ (width ++ (white2 ++ (height ++ (white3 ++ (maxval ++ (last ∷ raster)))))))
+  pub white-before-width : White white1
+  pub width-is : Numeral width (f .width)
+  pub white-before-height : White white2
+  pub height-is : Numeral height (f .height)
+  pub white-before-maxval : White white3
+  pub maxval-is : Numeral maxval (f .maxval)
+  pub white-after-maxval : isSpace last ≡ true

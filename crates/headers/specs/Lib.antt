@@ -1,0 +1,11 @@
+-- The header of a binary PGM: white space, numbers, the header, and what files it accepts.
+pub mod Parser
+pub mod Space
+pub mod Number
+pub mod NumberLaws
+pub mod Header
+pub mod File
+pub mod Layout
+pub mod FileLaws
+pub mod Steps
+pub mod Sequence

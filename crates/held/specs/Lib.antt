@@ -1,0 +1,2 @@
+-- What lists of cycles hold.
+pub mod Held

@@ -1,0 +1,2 @@
+-- The stretch of one cycle.
+pub mod Stretch

@@ -1,0 +1,4 @@
+-- Path data.
+pub mod Stores
+pub mod Svg
+pub mod PathSoFar
