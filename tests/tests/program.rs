@@ -1,6 +1,7 @@
 //! The program `outlines` as a user runs it: a file on standard input, the printed text on standard output. The expected texts are
 //! worked out by hand from document 01. The program is built by `rt check outlines`.
 
+use std::fs::File;
 use std::io::Write;
 use std::process::{Command, Stdio};
 use tests::cases::Cases;
@@ -96,6 +97,18 @@ fn files() {
         let refusal = said.starts_with(&format!("outlines: {name} is refused: ")) && said.contains(words);
         assert!(refusal != words.is_empty(), "{name}: {said}");
         cases.ran();
+    }
+    // A text that can't be written whole: the program, which can't end with a status, and the command each say so in one line.
+    for name in ["samples/dial-2.pgm", "samples/clock-64.pgm", "samples/refused-11.pgm"] {
+        for (program, status) in [("target/bin/outlines", 0), ("bin/outlines", 4)] {
+            let full = File::options().write(true).open("/dev/full").expect("a device that is full");
+            let picture = File::open(repository(name)).expect("a sample");
+            let output =
+                Command::new(repository(program)).stdin(picture).stdout(full).output().expect("the program ends");
+            assert_eq!(output.status.code(), Some(status), "{program} {name}");
+            assert_eq!(output.stderr, b"outlines: the text could not be written whole\n", "{program} {name}");
+            cases.ran();
+        }
     }
     cases.end();
 }

@@ -1,5 +1,5 @@
 //! docs/PROMISES.md names what is there: each theorem and definition stands in the file that is named after it, each function is
-//! public, each edit is in a must-fail folder.
+//! public, each edit is in a folder of edits.
 
 use std::fs;
 use std::path::{Path, PathBuf};
@@ -64,10 +64,11 @@ fn faults_of_functions(cell: &str) -> Vec<String> {
 /// An edit is a file's name, or its whole path where two crates have one of that name.
 fn faults_of_edits(cell: &str) -> Vec<String> {
     let fault = |word: &str| {
-        let folders = files(&repository("crates"));
+        let homes = files(&repository("crates"));
+        let folders = homes.iter().flat_map(|home| ["must-fail", "wrong"].map(|folder| home.join(folder)));
         let count = match word.contains('/') {
             true => usize::from(repository(word).exists()),
-            false => folders.iter().filter(|folder| folder.join("must-fail").join(word).exists()).count(),
+            false => folders.filter(|folder| folder.join(word).exists()).count(),
         };
         (count != 1).then(|| format!("{word} is in {count} crates"))
     };
