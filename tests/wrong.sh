@@ -61,34 +61,76 @@ apply() { # NAME EDIT
     [ "$pairs" -gt 0 ]
 }
 
-# One edit.
-try() { # NAME LABEL
-    local name=$1 label=$2 file status
-    local log=$root/target/wrong/$name/$label
-    mkdir -p "$log"
+# The functions that an edit changes, each by the folder of its proof; `definitions` where it changes a definition.
+functions_of() { # NAME EDIT
+    local line file='' module
+    while IFS= read -r line || [ -n "$line" ]; do
+        case $line in
+        'file: src/'*) file=${line#file: } module=${file#src/} module=${module%.rt}/ ;;
+        'file: '*) file='' ;;
+        'old: '*)
+            [ -n "$file" ] || { echo definitions; continue; }
+            [[ $module != lib/ && $module != main/ ]] || module=''
+            OLD=${line#old: } MODULE=/proofs/$module awk '
+                { text = text $0 "\n" }
+                /^(pub(\(crate\))? )?(extern "C" )?fn / { name[NR] = $0; sub(/^.*fn /, "", name[NR]); sub(/[^A-Za-z0-9_].*/, "", name[NR]) }
+                END {
+                    line = split(substr(text, 1, index(text, ENVIRON["OLD"])), before, "\n")
+                    while (line > 0 && !(line in name)) line--
+                    print ENVIRON["MODULE"] name[line]
+                }' "$root/crates/$1/$file" ;;
+        esac
+    done <"$2" | sort -u
+}
+
+# The errors of a log that no other error brought about.
+own_errors() { # LOG
+    grep ': error: ' "$1" | grep -v 'was not admitted'
+}
+
+# Tries edits of one crate together, each of other functions than the rest: a function is checked against its own contract and the
+# contracts of those that it calls, so what is wrong in one is no matter of the others. Where an edited function has no error of its
+# own, the edit is then tried alone.
+try() { # NAME LABEL...
+    local name=$1 label file status applied=1 said=target/said open=()
+    shift
     rm -rf target/inc touched
     cp -a seed target/inc
-    if apply "$name" "$root/crates/$name/wrong/$label.edit"; then
-        rt dev "$name" >"$log/.log" 2>&1
-        status=$?
-        if [ "$status" -eq 1 ] && grep -q '^logic=not-proved' "$log/.log"; then
-            echo "refused: $name/$label"
-        else
-            echo "FAILED: $name/$label: not refused, status $status"
-        fi
-    else
-        echo "FAILED: $name/$label: its old text does not stand in the file just once"
-    fi
+    for label in "$@"; do apply "$name" "$root/crates/$name/wrong/$label.edit" || applied=0; done
+    [ "$applied" -eq 0 ] || { rt dev "$name" >"$said" 2>&1; status=$?; }
     while IFS= read -r file; do ln -f "$root/$file" "$file"; done < <(cat touched 2>/dev/null)
+    for label in "$@"; do
+        if [ "$applied" -eq 0 ]; then
+            [ $# -gt 1 ] && open+=("$label") || echo "FAILED: $name/$label: its old text does not stand in the file just once"
+        elif [ "$status" -ne 1 ] || ! grep -q '^logic=not-proved' "$said"; then
+            [ $# -gt 1 ] && open+=("$label") || echo "FAILED: $name/$label: not refused, status $status"
+        elif [ $# -gt 1 ] && ! functions_of "$name" "$root/crates/$name/wrong/$label.edit" | sed 's,$,/Proof.antt:,' | grep -qFf - <(own_errors "$said"); then
+            open+=("$label")
+        else
+            mkdir -p "$root/target/wrong/$name/$label"
+            cp "$said" "$root/target/wrong/$name/$label/.log"
+            echo "refused: $name/$label"
+        fi
+    done
+    for label in "${open[@]}"; do try "$name" "$label"; done
 }
-# All edits of a crate, one after the other.
+
+# All edits of a crate: by groups in which no function is edited twice; edits of definitions alone.
 try_all() { # NAME
-    local edit
+    local edit label functions i groups=() edited=()
     to_slot
     seed "$1" || return
-    for edit in "$root/crates/$1"/wrong/*.edit; do try "$1" "$(basename "$edit" .edit)"; done
+    for edit in "$root/crates/$1"/wrong/*.edit; do
+        label=$(basename "$edit" .edit)
+        functions=$(functions_of "$1" "$edit")
+        i=0
+        [[ $functions != *definitions* ]] || i=${#groups[@]}
+        while [ "$i" -lt "${#groups[@]}" ] && grep -qxFf <(printf '%s\ndefinitions\n' "$functions") <<<"${edited[i]}"; do i=$((i + 1)); done
+        groups[i]+=" $label" edited[i]+=$functions$'\n'
+    done
+    for i in "${!groups[@]}"; do try "$1" ${groups[i]}; done
 }
-export -f to_slot seed apply try try_all
+export -f to_slot seed apply functions_of own_errors try try_all
 
 # The crates that have edits, those that take longest first: by the number of edits and the length of what is checked.
 by_length() { # NAME...

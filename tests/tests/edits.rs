@@ -84,9 +84,10 @@ fn line_in(said: &str, file: &str) -> Option<usize> {
 }
 
 /// A line of a log that says that a fact fails of what was edited: an error in the proof of the edited function, a note at a line of
-/// a function that has no proof file, or, where a definition was edited, an error in any file of the crate's logic.
+/// a function that has no proof file, or, where a definition was edited, an error in any file of the crate's logic. An error that
+/// another one brought about is none.
 fn is_own(said: &str, place: &Place, source: &str) -> bool {
-    let error = said.contains(": error: ");
+    let error = said.contains(": error: ") && !said.contains("was not admitted");
     let logic = error && said.contains(".antt:");
     let Some(file) = place.file.strip_prefix("src/") else { return logic };
     let Some(function) = function_at(source, &place.old) else { return logic };
@@ -150,6 +151,7 @@ fn what_shows_nothing_is_seen() {
         "x/proofs/one/Proof.antt:3:1: error: `returns`: the two types differ",
         "note: x/src/lib.rt:2:1: it is not proved that what the function ensures holds",
         "x/proofs/two/Proof.antt:3:1: error: `needs` is not in scope",
+        "x/proofs/two/Proof.antt:9:1: error: `two-spec`: `close` was not admitted, so this cannot be checked",
         "x/specs/Roots.antt:3:1: error: `root`: no",
     ] {
         assert!(faulty(log, &two), "{log}");

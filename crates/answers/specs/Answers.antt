@@ -15,26 +15,26 @@ use Rattle.answers.specs.declared.Written.{Written}
 
 -- "Paths and chains: 16 or 17, then 8" (document 01): the cause where the input is no form, then 8 where the lent list is
 -- shorter than its need.
-unfoldable pub numberOf : ℕ → Bool → ℕ → ℕ → ℕ
+unfoldable pub writerNumber : ℕ → Bool → ℕ → ℕ → ℕ
 unfolding first when
-numberOf cause form need room = first (when (not form) cause) (when (ltb room need) 8)
+writerNumber cause form need room = first (when (not form) cause) (when (ltb room need) 8)
 
 module _ (cause : ℕ) (form : Bool) (need room : ℕ) where
-  pub no-form : form ≡ false → 0 < cause → numberOf cause form need room ≡ cause
-  unfolding numberOf
+  pub no-form : form ≡ false → 0 < cause → writerNumber cause form need room ≡ cause
+  unfolding writerNumber
   no-form h p = rw h (first-some cause (when (ltb room need) 8) p)
 
-  pub too-short : form ≡ true → room < need → numberOf cause form need room ≡ 8
-  unfolding numberOf
+  pub too-short : form ≡ true → room < need → writerNumber cause form need room ≡ 8
+  unfolding writerNumber
   too-short h l = rw (h, lt-ltb room need l) refl
 
-  pub no-cause : form ≡ true → need ≤ room → numberOf cause form need room ≡ 0
-  unfolding numberOf
+  pub no-cause : form ≡ true → need ≤ room → writerNumber cause form need room ≡ 0
+  unfolding writerNumber
   no-cause h l = rw (h, le-ltb room need l) refl
 
   -- Accepted: a form, and room enough.
-  pub accepts : 0 < cause → numberOf cause form need room ≡ 0 → (form ≡ true) × (need ≤ room)
-  unfolding numberOf
+  pub accepts : 0 < cause → writerNumber cause form need room ≡ 0 → (form ≡ true) × (need ≤ room)
+  unfolding writerNumber
   accepts p h =
       let z = first-zero (when (not form) cause) (when (ltb room need) 8) h in
       (not-false form (when-zero (not form) cause p (z .0)), ltb-false room need (when-zero (ltb room need) 8 (omega arith) (z .1)))
@@ -47,8 +47,8 @@ pub record Writes (number : ℕ) (new old now : List ℕ) (answer : Written) : T
 
 -- The three answers of such a writer: the cause, 8, and all of `new` put.
 module _ (cause : ℕ) (form : Bool) (need : ℕ) {new old : List ℕ} (answer : Written) where
-  refused : (k : ℕ) → numberOf cause form need (length old) ≡ suc k → answer .number ≡ suc k → answer .count ≡ 0
-      → Writes (numberOf cause form need (length old)) new old old answer
+  refused : (k : ℕ) → writerNumber cause form need (length old) ≡ suc k → answer .number ≡ suc k → answer .count ≡ 0
+      → Writes (writerNumber cause form need (length old)) new old old answer
   unfolding ifAccepted
   refused k e n z =
       record {
@@ -58,14 +58,14 @@ module _ (cause : ℕ) (form : Bool) (need : ℕ) {new old : List ℕ} (answer :
       }
 
   pub answers-cause : (k : ℕ) → cause ≡ suc k → form ≡ false → answer .number ≡ cause → answer .count ≡ 0
-      → Writes (numberOf cause form need (length old)) new old old answer
+      → Writes (writerNumber cause form need (length old)) new old old answer
   answers-cause k c h n z = refused k (no-form cause form need (length old) h (omega arith) ∙ c) (n ∙ c) z
 
-  pub answers-short : form ≡ true → length old < need → answer .number ≡ 8 → answer .count ≡ 0 → Writes (numberOf cause form need (length old)) new old old answer
+  pub answers-short : form ≡ true → length old < need → answer .number ≡ 8 → answer .count ≡ 0 → Writes (writerNumber cause form need (length old)) new old old answer
   answers-short h l n z = refused 7 (too-short cause form need (length old) h l) n z
 
   pub answers-all : {now : List ℕ} → form ≡ true → need ≤ length old → answer .number ≡ 0 → Put new old now (answer .count)
-      → Writes (numberOf cause form need (length old)) new old now answer
+      → Writes (writerNumber cause form need (length old)) new old now answer
   unfolding ifAccepted
   answers-all {now} h l n p =
       let e = no-cause cause form need (length old) h l in

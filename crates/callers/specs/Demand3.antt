@@ -33,7 +33,7 @@ use Rattle.grid.specs.Returning.{Ring, edge-returns, back-edge, step-back, step
 use Rattle.grid.specs.Bounds.{cycles-fit, corner-count-fits}
 use Rattle.grid.specs.Forms.{listed-is-cycle-form}
 use Rattle.grid.specs.Outer.{OuterAt, first-is-outer, region-has-first}
-use Rattle.grid.specs.Sides.{sideOf, beyond}
+use Rattle.grid.specs.Sides.{sideAt, beyond}
 use Rattle.grid.specs.Starting.{margin}
 use Rattle.grid.specs.Stretches.{length-owners, length-ends, last-end}
 use Rattle.grid.specs.Pinches.{meeting-turns-right}
@@ -116,7 +116,7 @@ pub record AtExit (n : ℕ) (cs ls ks : List ℕ) (before after : Lent) (r : Tra
   -- so for the side of a pixel beyond which lies another region or the outside
   pub pixel-sides : (x y d : ℕ) → x < 2 ^ n → y < 2 ^ n → d < 4
       → beyond (regionAt n (numbersOf n cs ls ks)) x y d ≢ regionAt n (numbersOf n cs ls ks) (suc x) (suc y)
-      → OnceIn (heldAt after r) (getD (numbersOf n cs ls ks) (code n x y) 0) (sideOf x y d)
+      → OnceIn (heldAt after r) (getD (numbersOf n cs ls ks) (code n x y) 0) (sideAt x y d)
   -- the stretch of cycle k is exactly the corners of the k-th cycle, from its start
   pub stretch : (k : ℕ) → k < r .cycles
       → stretchOf (after .cornerList) (after .endList) (r .cycles) k ≡ corners (cycle n (numbersOf n cs ls ks) (getD (startsOf n cs ls ks) k 0))
@@ -324,7 +324,7 @@ module _ {n : ℕ} {cs ls ks : List ℕ} {before after : Lent} {r : Traced} (p :
 
     pixel-once : (x y d : ℕ) → x < 2 ^ n → y < 2 ^ n → d < 4
         → beyond (regionAt n (numbersOf n cs ls ks)) x y d ≢ regionAt n (numbersOf n cs ls ks) (suc x) (suc y)
-        → OnceIn (outlinesOf n cs ls ks) (getD (numbersOf n cs ls ks) (code n x y) 0) (sideOf x y d)
+        → OnceIn (outlinesOf n cs ls ks) (getD (numbersOf n cs ls ks) (code n x y) 0) (sideAt x y d)
     unfolding outlinesOf
     pixel-once = pixel-side-once n (numbersOf n cs ls ks) (regions n (paint (blocks cs ls ks))) small known
 
@@ -382,7 +382,7 @@ module _ {n : ℕ} {cs ls ks : List ℕ} {before after : Lent} {r : Traced} (p :
       outlines = subst (λ (c : List Cycle). OutlinesListed n (numbersOf n cs ls ks) c (startsOf n cs ls ks)) (sym lists-hold-the-listing) listed;
       sides = subst (SidesOnce (regionAt n (numbersOf n cs ls ks))) (sym lists-hold-the-listing) once;
       pixel-sides = λ x y d a b h other.
-          subst (λ (c : List Cycle). OnceIn c (getD (numbersOf n cs ls ks) (code n x y) 0) (sideOf x y d)) (sym lists-hold-the-listing) (pixel-once x y d a b h other);
+          subst (λ (c : List Cycle). OnceIn c (getD (numbersOf n cs ls ks) (code n x y) 0) (sideAt x y d)) (sym lists-hold-the-listing) (pixel-once x y d a b h other);
       stretch = λ k h. stretch-is k h ∙ points-are-corners k (omega (arith, cycles-are));
       walked = sides-walked;
       stepwise = λ k h. subst (RunsThrough (regionAt n (numbersOf n cs ls ks))) (sym (sides-walked k h)) (runs k (omega (arith, cycles-are)));

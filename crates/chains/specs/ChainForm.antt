@@ -10,7 +10,7 @@ use lib.ListN.{length, getD}
 use Rattle.lattice.specs.Directions.{xOf, yOf, move, opposite, edge}
 use Rattle.lattice.specs.Walks.{corners, lastOf}
 use Rattle.lattice.specs.CycleForm.{inside}
-use Rattle.answers.specs.Answers.{Writes, numberOf}
+use Rattle.answers.specs.Answers.{Writes, writerNumber}
 use Rattle.answers.specs.declared.Written.{Written}
 
 -- The digit of a byte.
@@ -71,7 +71,7 @@ chainForm start bs = inside start && (firstEast bs && (lastAcross bs && (closes 
 
 -- "Chain corners, their number" (document 01, needs).
 unfoldable pub readNumber : ℕ → List ℕ → List ℕ → ℕ
-readNumber start bs list = numberOf 17 (chainForm start bs) (length (cornersOf start bs)) (length list)
+readNumber start bs list = writerNumber 17 (chainForm start bs) (length (cornersOf start bs)) (length list)
 
 -- What the reader promises of the start, the bytes, the corner list before and after, and the answer.
 abbrev pub ChainRead : ℕ → List ℕ → List ℕ → List ℕ → Written → Type 0

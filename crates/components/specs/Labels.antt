@@ -9,7 +9,8 @@ use lib.Seq.{take-length}
 use Rattle.sequences.specs.Maps.{getD-map}
 use Rattle.quadtree.specs.Blocks.{Block, blocks, pixels, paint}
 use Rattle.quadtree.specs.Number.{cover, number}
-use Rattle.staircase.specs.FirstBlocks.{Within, all-pixels, accepted-covers}
+use Rattle.quadtree.specs.Accepted.{number-zero}
+use Rattle.staircase.specs.FirstBlocks.{Within, all-pixels}
 use Rattle.components.specs.Joined.{Connected, Joined, connected-through, connected-back}
 use Rattle.components.specs.Numbers.{numbers, labels}
 use Rattle.components.specs.Numbered.{one-number-exactly-when-joined}
@@ -80,5 +81,5 @@ pub accepted-labels-equal-exactly-when-joined : (n : ℕ) (codes levels colours 
     ↔ Joined n (paint (blocks codes levels colours)) c d
 accepted-labels-equal-exactly-when-joined n codes levels colours accepted i j c d a b v w =
     let bs : List Block = blocks codes levels colours in
-    let covering : cover n 0 bs ≡ 0 = accepted-covers n codes levels colours accepted in
+    let covering : cover n 0 bs ≡ 0 = number-zero n codes levels colours accepted .covering in
     labels-equal-exactly-when-joined n bs covering i j c d (within-held n bs covering i c a .0 v) (within-held n bs covering j d b .0 w)

@@ -38,26 +38,26 @@ pub record Dial : Type 0 where
   pub says : List Saying
 
 -- The colours of a dial's pixels, and its outlines.
-unfoldable pub pixelsOf : Dial → List ℕ
+unfoldable pub dialPixels : Dial → List ℕ
 unfolding paint blocks
-pixelsOf d = paint (blocks (d .codes) (d .levels) (d .colours))
+dialPixels d = paint (blocks (d .codes) (d .levels) (d .colours))
 
 abbrev pub traced : Dial → List Cycle
 traced d = outlinesOf (d .n) (d .codes) (d .levels) (d .colours)
 
 -- A saying, as equations.
-abbrev pub Holds : Dial → Saying → Type 0
-Holds d (answer k) = number (d .n) (d .codes) (d .levels) (d .colours) ≡ k
-Holds d (labelled ls) = labels (d .n) (blocks (d .codes) (d .levels) (d .colours)) ≡ ls
-Holds d (counted r c k) = (regions (d .n) (pixelsOf d) ≡ r) × (cycleCount (traced d) ≡ c) × (cornerCount (traced d) ≡ k)
-Holds d (outlined os es cs) = (owners (traced d) ≡ os) × (ends (traced d) ≡ es) × (allCorners (traced d) ≡ cs)
-Holds d (path r bytes) = dataOf r (traced d) ≡ bytes
-Holds d (string start bytes k) = (chainForm start bytes ≡ true) × (cornersOf start bytes ≡ pointsAt (traced d) k) × (chainOf (pointsAt (traced d) k) ≡ bytes)
+abbrev pub SayingHolds : Dial → Saying → Type 0
+SayingHolds d (answer k) = number (d .n) (d .codes) (d .levels) (d .colours) ≡ k
+SayingHolds d (labelled ls) = labels (d .n) (blocks (d .codes) (d .levels) (d .colours)) ≡ ls
+SayingHolds d (counted r c k) = (regions (d .n) (dialPixels d) ≡ r) × (cycleCount (traced d) ≡ c) × (cornerCount (traced d) ≡ k)
+SayingHolds d (outlined os es cs) = (owners (traced d) ≡ os) × (ends (traced d) ≡ es) × (allCorners (traced d) ≡ cs)
+SayingHolds d (path r bytes) = dataOf r (traced d) ≡ bytes
+SayingHolds d (string start bytes k) = (chainForm start bytes ≡ true) × (cornersOf start bytes ≡ pointsAt (traced d) k) × (chainOf (pointsAt (traced d) k) ≡ bytes)
 
 -- All that is said of a dial, and of each dial of a table.
 abbrev pub Each : Dial → List Saying → Type 0
 Each d [] = Unit {0}
-Each d (s ∷ ss) = Holds d s × Each d ss
+Each d (s ∷ ss) = SayingHolds d s × Each d ss
 
 abbrev pub AllHold : List Dial → Type 0
 AllHold [] = Unit {0}
@@ -72,10 +72,10 @@ same (x ∷ xs) [] = false
 same (x ∷ xs) (y ∷ ys) = eqb x y && same xs ys
 
 unfoldable pub holds : Dial → Saying → Bool
-unfolding number labels blocks regions pixelsOf outlinesOf cycleCount cornerCount owners ends allCorners pointsAt dataOf chainForm cornersOf chainOf same
+unfolding number labels blocks regions dialPixels outlinesOf cycleCount cornerCount owners ends allCorners pointsAt dataOf chainForm cornersOf chainOf same
 holds d (answer k) = eqb (number (d .n) (d .codes) (d .levels) (d .colours)) k
 holds d (labelled ls) = same (labels (d .n) (blocks (d .codes) (d .levels) (d .colours))) ls
-holds d (counted r c k) = eqb (regions (d .n) (pixelsOf d)) r && (eqb (cycleCount (traced d)) c && eqb (cornerCount (traced d)) k)
+holds d (counted r c k) = eqb (regions (d .n) (dialPixels d)) r && (eqb (cycleCount (traced d)) c && eqb (cornerCount (traced d)) k)
 holds d (outlined os es cs) = same (owners (traced d)) os && (same (ends (traced d)) es && same (allCorners (traced d)) cs)
 holds d (path r bytes) = same (dataOf r (traced d)) bytes
 holds d (string start bytes k) = chainForm start bytes && (same (cornersOf start bytes) (pointsAt (traced d) k) && same (chainOf (pointsAt (traced d) k)) bytes)
@@ -100,14 +100,14 @@ same-says (x ∷ xs) (y ∷ ys) h =
     let b = and-both (eqb x y) (same xs ys) h in
     ap₂ {A = ℕ} {B = List ℕ} (λ z zs. z ∷ zs) (eqb-true x y (b .0)) (same-says xs ys (b .1))
 
-pub holds-says : (d : Dial) (s : Saying) → holds d s ≡ true → Holds d s
+pub holds-says : (d : Dial) (s : Saying) → holds d s ≡ true → SayingHolds d s
 unfolding holds
 holds-says d (answer k) h = eqb-true (number (d .n) (d .codes) (d .levels) (d .colours)) k h
 holds-says d (labelled ls) h = same-says (labels (d .n) (blocks (d .codes) (d .levels) (d .colours))) ls h
 holds-says d (counted r c k) h =
-    let a = and-both (eqb (regions (d .n) (pixelsOf d)) r) (eqb (cycleCount (traced d)) c && eqb (cornerCount (traced d)) k) h in
+    let a = and-both (eqb (regions (d .n) (dialPixels d)) r) (eqb (cycleCount (traced d)) c && eqb (cornerCount (traced d)) k) h in
     let b = and-both (eqb (cycleCount (traced d)) c) (eqb (cornerCount (traced d)) k) (a .1) in
-    (eqb-true (regions (d .n) (pixelsOf d)) r (a .0), eqb-true (cycleCount (traced d)) c (b .0), eqb-true (cornerCount (traced d)) k (b .1))
+    (eqb-true (regions (d .n) (dialPixels d)) r (a .0), eqb-true (cycleCount (traced d)) c (b .0), eqb-true (cornerCount (traced d)) k (b .1))
 holds-says d (outlined os es cs) h =
     let a = and-both (same (owners (traced d)) os) (same (ends (traced d)) es && same (allCorners (traced d)) cs) h in
     let b = and-both (same (ends (traced d)) es) (same (allCorners (traced d)) cs) (a .1) in

@@ -27,15 +27,15 @@ unfoldable pub z : List ℕ → List ℕ
 z rest = 90 ∷ rest
 
 -- A string of digits as bytes.
-unfoldable pub digits : List ℕ → List ℕ
-digits ds = map (λ d. 48 + d) ds
+unfoldable pub digitBytes : List ℕ → List ℕ
+digitBytes ds = map (λ d. 48 + d) ds
 
 -- A dial of which document 01 says the number alone.
 unfoldable pub checked : ℕ → List ℕ → List ℕ → List ℕ → ℕ → Dial
 checked n codes levels colours k = record { n = n; codes = codes; levels = levels; colours = colours; says = answer k ∷ [] }
 
 unfoldable pub table : List Dial
-unfolding point m h v z digits checked
+unfolding point m h v z digitBytes checked
 table =
     -- 1. n=0, one block: M0 0H1V1H0Z; the string 0321 read from (0,0) gives its corners, whose unit steps it lists (document 02, m).
     record {
@@ -49,7 +49,7 @@ table =
           ∷ counted 1 1 4
           ∷ outlined (0 ∷ []) (4 ∷ []) (point 0 0 ∷ point 1 0 ∷ point 1 1 ∷ point 0 1 ∷ [])
           ∷ path 0 (m 0 0 (h 1 (v 1 (h 0 (z [])))))
-          ∷ string (point 0 0) (digits (0 ∷ 3 ∷ 2 ∷ 1 ∷ [])) 0
+          ∷ string (point 0 0) (digitBytes (0 ∷ 3 ∷ 2 ∷ 1 ∷ [])) 0
           ∷ [];
     }
     -- 2. Figure 5(b): numbers 0 0 0 1 0 0 2; M0 0H4V2H2V1H1V2H2V4H0Z, M1 1H2V2H1Z and M2 2H4V4H2Z.

@@ -18,7 +18,7 @@ use Rattle.grid.specs.Steps.{Edge}
 use Rattle.grid.specs.Cycles.{northSide, cycle, cycleFrom}
 use Rattle.grid.specs.Listing.{startCodes, Cycle, cycleAt, listing, allCorners, cycleCount, cornerCount}
 use Rattle.grid.specs.Undoing.{digit-below-four}
-use Rattle.grid.specs.Sides.{sideOf, rightX, rightY, RightOf, edge-is-side}
+use Rattle.grid.specs.Sides.{sideAt, rightX, rightY, RightOf, edge-is-side}
 use Rattle.grid.specs.Returning.{Ring, ring}
 use Rattle.grid.specs.Starting.{StartAt, margin, start-says, one-start}
 use Rattle.grid.specs.Keeping.{in-start-codes, start-codes-distinct, starts-fit}
@@ -70,7 +70,7 @@ module _ (n : ℕ) (nums : List ℕ) (small : n ≤ 8) where
       let wb = within s b k in
       let xy = code-injective n (rightX (tail a) (digit a)) (rightY (tail a) (digit a)) (rightX (tail b) (digit b)) (rightY (tail b) (digit b)) (wa .0) (wa .1) (wb .0) (wb .1) (ab .0) in
       edge-is-side m (margin n nums small) r a h .the-side
-      ∙ ap₂ (λ x y. sideOf x y (digit a)) (xy .0) (xy .1) ∙ ap (sideOf (rightX (tail b) (digit b)) (rightY (tail b) (digit b))) (ab .1)
+      ∙ ap₂ (λ x y. sideAt x y (digit a)) (xy .0) (xy .1) ∙ ap (sideAt (rightX (tail b) (digit b)) (rightY (tail b) (digit b))) (ab .1)
       ∙ sym (edge-is-side m (margin n nums small) s b k .the-side)
 
   -- All listed edges, cycle after cycle.

@@ -13,7 +13,7 @@ use Rattle.grid.specs.Margins.{region-inside}
 use Rattle.grid.specs.Steps.{Edge}
 use Rattle.grid.specs.Cycles.{cycleFrom, northSide, cycle}
 use Rattle.grid.specs.Listing.{startCodes, Cycle, cycleAt, listing, owners, pointsAt}
-use Rattle.grid.specs.Sides.{sideOf, beyond, side-is-edge}
+use Rattle.grid.specs.Sides.{sideAt, beyond, side-is-edge}
 use Rattle.grid.specs.North.{side-small}
 use Rattle.grid.specs.Returning.{Ring, ring, same-cycle}
 use Rattle.grid.specs.Starting.{StartAt, Started, margin, start-says, says-start, some-start, one-start}
@@ -130,13 +130,13 @@ module _ (n : ℕ) (nums : List ℕ) (regions : ℕ) (small : n ≤ 8) where
   -- Every number of the image is that of a listed region.
   module _ (known : (c : ℕ) → c < 4 ^ n → getD nums c 0 < regions) where
     -- The listed cycle through an edge.
-    pub record Found (r e : ℕ) : Type 0 where
+    pub record CycleThrough (r e : ℕ) : Type 0 where
       pub cycle-number : ℕ
       pub listed : cycle-number < length l
       pub owned : getD nums (start cycle-number) 0 ≡ r
       pub stands : In e (cycle n nums (start cycle-number))
 
-    pub find : (r e : ℕ) → Edge m (suc r) e → Found r e
+    pub find : (r e : ℕ) → Edge m (suc r) e → CycleThrough r e
     find r e h =
         let s : Started n nums small (suc r) e = some-start n nums small (suc r) e h in
         let c : ℕ = s .start in
@@ -153,7 +153,7 @@ module _ (n : ℕ) (nums : List ℕ) (regions : ℕ) (small : n ≤ 8) where
     unfolding cycle
     once-in r e h = from (find r e h)
       where
-        from : Found r e → OnceIn l r e
+        from : CycleThrough r e → OnceIn l r e
         from f =
             let k : ℕ = f .cycle-number in
             let o : sides k ≡ cycle n nums (start k) = outline-at k (f .listed) in
@@ -175,10 +175,10 @@ module _ (n : ℕ) (nums : List ℕ) (regions : ℕ) (small : n ≤ 8) where
     each-side-once = record { once = once-in; nothing-else = edge-at }
 
     -- In document 01's words: the side of a pixel beyond which lies another region or the outside.
-    pub pixel-side-once : (x y d : ℕ) → x < 2 ^ n → y < 2 ^ n → d < 4 → beyond m x y d ≢ m (suc x) (suc y) → OnceIn l (getD nums (code n x y) 0) (sideOf x y d)
+    pub pixel-side-once : (x y d : ℕ) → x < 2 ^ n → y < 2 ^ n → d < 4 → beyond m x y d ≢ m (suc x) (suc y) → OnceIn l (getD nums (code n x y) 0) (sideAt x y d)
     pixel-side-once x y d a b h other =
         let here : m (suc x) (suc y) ≡ suc (getD nums (code n x y) 0) = region-inside n nums x y a b in
-        once-in (getD nums (code n x y) 0) (sideOf x y d)
+        once-in (getD nums (code n x y) 0) (sideAt x y d)
         (side-is-edge m (suc (getD nums (code n x y) 0)) x y d (omega (arith, side-small n small)) h (omega arith) here .1 (λ e. other (e ∙ sym here)))
 
     outline-of : (r e : ℕ) → Edge m (suc r) e
@@ -186,7 +186,7 @@ module _ (n : ℕ) (nums : List ℕ) (regions : ℕ) (small : n ≤ 8) where
     unfolding cycle
     outline-of r e h = from (find r e h)
       where
-        from : Found r e → (k : ℕ) × (k < length l) × (owner k ≡ r) × ((a : ℕ) → In a (cycleFrom m e) ↔ In a (sides k))
+        from : CycleThrough r e → (k : ℕ) × (k < length l) × (owner k ≡ r) × ((a : ℕ) → In a (cycleFrom m e) ↔ In a (sides k))
         from f =
             let k : ℕ = f .cycle-number in
             let c : ℕ = start k in

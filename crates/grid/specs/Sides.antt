@@ -11,12 +11,12 @@ use Rattle.grid.specs.Undoing.{fits, no-digit, digit-below-four}
 
 -- The side of the pixel (x, y) that is walked in the direction d with the pixel on its right: "north side eastward, east side
 -- southward, south side westward, west side northward" (document 01, "Outlines").
-unfoldable pub sideOf : ℕ → ℕ → ℕ → ℕ
+unfoldable pub sideAt : ℕ → ℕ → ℕ → ℕ
 unfolding point edge
-sideOf x y zero = edge (point x y) 0
-sideOf x y (suc zero) = edge (point x (suc y)) 1
-sideOf x y (suc (suc zero)) = edge (point (suc x) (suc y)) 2
-sideOf x y (suc (suc (suc d))) = edge (point (suc x) y) 3
+sideAt x y zero = edge (point x y) 0
+sideAt x y (suc zero) = edge (point x (suc y)) 1
+sideAt x y (suc (suc zero)) = edge (point (suc x) (suc y)) 2
+sideAt x y (suc (suc (suc d))) = edge (point (suc x) y) 3
 
 -- What the map has beyond that side: north, west, south and east of the pixel (x, y), which stands at (x + 1, y + 1) of the map.
 unfoldable pub beyond : (ℕ → ℕ → ℕ) → ℕ → ℕ → ℕ → ℕ
@@ -27,12 +27,12 @@ beyond m x y (suc (suc (suc d))) = m (suc (suc x)) (suc y)
 
 -- The tail and the direction of a side, and the pixels on both sides of it.
 pub record Parts (m : ℕ → ℕ → ℕ) (x y d : ℕ) : Type 0 where
-  pub direction : digit (sideOf x y d) ≡ d
-  pub here : around m (tail (sideOf x y d)) d ≡ m (suc x) (suc y)
-  pub there : around m (tail (sideOf x y d)) (leftOf d) ≡ beyond m x y d
+  pub direction : digit (sideAt x y d) ≡ d
+  pub here : around m (tail (sideAt x y d)) d ≡ m (suc x) (suc y)
+  pub there : around m (tail (sideAt x y d)) (leftOf d) ≡ beyond m x y d
 
 pub side-parts : (m : ℕ → ℕ → ℕ) (x y d : ℕ) → x < 511 → d < 4 → Parts m x y d
-unfolding sideOf beyond around point xOf yOf edge tail digit leftOf
+unfolding sideAt beyond around point xOf yOf edge tail digit leftOf
 side-parts m x y zero a h =
     let ex : (4 * (512 * y + x) + 0) / 4 % 512 ≡ x = omega arith in
     let ey : (4 * (512 * y + x) + 0) / 4 / 512 ≡ y = omega arith in
@@ -52,16 +52,16 @@ side-parts m x y (suc (suc (suc zero))) a h =
 side-parts m x y (suc (suc (suc (suc d)))) a h = no-digit d h
 
 -- "A unit side of a pixel in region R is an edge of R if the pixel beyond is in another region or outside the image."
-pub side-is-edge : (m : ℕ → ℕ → ℕ) (r x y d : ℕ) → x < 511 → d < 4 → 0 < r → m (suc x) (suc y) ≡ r → Edge m r (sideOf x y d) ↔ (beyond m x y d ≢ r)
+pub side-is-edge : (m : ℕ → ℕ → ℕ) (r x y d : ℕ) → x < 511 → d < 4 → 0 < r → m (suc x) (suc y) ≡ r → Edge m r (sideAt x y d) ↔ (beyond m x y d ≢ r)
 side-is-edge m r x y d a h pos e =
     let p : Parts m x y d = side-parts m x y d a h in (
-      λ g. subst (λ v. v ≢ r) (ap (λ o. around m (tail (sideOf x y d)) (leftOf o)) (p .direction) ∙ p .there) (g .side .on-left),
+      λ g. subst (λ v. v ≢ r) (ap (λ o. around m (tail (sideAt x y d)) (leftOf o)) (p .direction) ∙ p .there) (g .side .on-left),
       λ n. record {
         a-region = pos;
         side = record {
-          digit-below = digit-below-four (sideOf x y d);
-          on-right = ap (around m (tail (sideOf x y d))) (p .direction) ∙ p .here ∙ e;
-          on-left = subst (λ v. v ≢ r) (sym (ap (λ o. around m (tail (sideOf x y d)) (leftOf o)) (p .direction) ∙ p .there)) n;
+          digit-below = digit-below-four (sideAt x y d);
+          on-right = ap (around m (tail (sideAt x y d))) (p .direction) ∙ p .here ∙ e;
+          on-left = subst (λ v. v ≢ r) (sym (ap (λ o. around m (tail (sideAt x y d)) (leftOf o)) (p .direction) ∙ p .there)) n;
         };
       },
     )
@@ -81,13 +81,13 @@ rightY p (suc (suc zero)) = yOf p - 1
 rightY p (suc (suc (suc d))) = yOf p
 
 pub record RightOf (m : ℕ → ℕ → ℕ) (r e x y : ℕ) : Type 0 where
-  pub the-side : e ≡ sideOf x y (digit e)
+  pub the-side : e ≡ sideAt x y (digit e)
   pub in-region : m (suc x) (suc y) ≡ r
   pub x-below : x < 256
   pub y-below : y < 256
 
 right-of : (m : ℕ → ℕ → ℕ) → Margin m → (r e d : ℕ) → digit e ≡ d → 0 < r → Side m r (tail e) d → RightOf m r e (rightX (tail e) d) (rightY (tail e) d)
-unfolding sideOf rightX rightY around point xOf yOf edge tail digit
+unfolding sideAt rightX rightY around point xOf yOf edge tail digit
 right-of m g r e zero h pos s =
     let f = fits m g r (suc (e / 4 % 512)) (suc (e / 4 / 512)) pos (s .on-right) in
     record { the-side = rw h (omega arith); in-region = s .on-right; x-below = omega arith; y-below = omega arith }

@@ -21,7 +21,7 @@ pub record Linkable (whole count : ℕ) (ls w : List ℕ) : Type 0 where
   pub blank : (r : ℕ) → r < whole → getD w r 0 ≡ 0
 
 -- Each place is linked: its entry is 1 plus the next place with its label, 0 where there is none.
-pub record Linked (whole count : ℕ) (ls w₀ w : List ℕ) : Type 0 where
+pub record PlacesLinked (whole count : ℕ) (ls w₀ w : List ℕ) : Type 0 where
   pub long : length w ≡ length w₀
   pub nexts : (i : ℕ) → i < count → getD w (whole + i) 0 ≡ firstFrom (labelAt ls) count (getD ls i 0) (suc i)
   pub beyond : (i : ℕ) → whole + count ≤ i → getD w i 0 ≡ getD w₀ i 0
@@ -110,5 +110,5 @@ module _ {whole count : ℕ} {ls w₀ : List ℕ} (ok : Linkable whole count ls 
           ∙ g .beyond i h;
     }
 
-  pub finish : {w : List ℕ} {d : ℕ} → Linking whole count ls w₀ w d → d ≤ 0 → Linked whole count ls w₀ w
+  pub finish : {w : List ℕ} {d : ℕ} → Linking whole count ls w₀ w d → d ≤ 0 → PlacesLinked whole count ls w₀ w
   finish g e = record { long = g .long; nexts = λ i h. g .nexts i (omega arith) h; beyond = g .beyond }

@@ -11,7 +11,7 @@ use Rattle.location.specs.Places.{placeOf}
 use Rattle.quadtree.specs.Quadtree.{alike}
 use Rattle.quadtree.specs.Raster.{place, inCodeOrder}
 use Rattle.quadtree.specs.Orders.{in-code-order-at, place-in, place-worked-out}
-use Rattle.quadtree.specs.Merging.{blockAt}
+use Rattle.quadtree.specs.Merging.{blockFrom}
 use Rattle.squares.specs.Quadrants.{lower-multiple}
 use Rattle.merging.specs.Growing.{level-reached, level-stopped, one-pixel}
 use Rattle.merging.specs.Others.{OthersFit, besideAlike, others-fit, others-by-codes}
@@ -72,14 +72,14 @@ module _ {n : ℕ} {raster : List ℕ} {c : ℕ} (whole : RasterOf n raster) (in
     }
 
     pub growth-stops : {r : Bool} → r ≡ besideAlike raster v w at s → r ≡ false
-        → l ≡ blockAt n (inCodeOrder n raster) c .level
-    unfolding blockAt
+        → l ≡ blockFrom n (inCodeOrder n raster) c .level
+    unfolding blockFrom
     growth-stops {r} e h =
         level-stopped (inCodeOrder n raster) c l (topLevel n c) (omega (arith, g .highest)) (g .one-colour) (sym by-codes ∙ sym e ∙ h)
 
-  pub growth-full : {top w at v l : ℕ} → Growth n raster c top w at v l → top ≤ l → l ≡ blockAt n (inCodeOrder n raster) c .level
-  unfolding blockAt
+  pub growth-full : {top w at v l : ℕ} → Growth n raster c top w at v l → top ≤ l → l ≡ blockFrom n (inCodeOrder n raster) c .level
+  unfolding blockFrom
   growth-full {top} {w} {at} {v} {l} g h =
       let e : l ≡ topLevel n c = omega (arith, g .within, g .highest) in
-      subst (λ (k : ℕ). k ≡ blockAt n (inCodeOrder n raster) c .level) (sym e)
+      subst (λ (k : ℕ). k ≡ blockFrom n (inCodeOrder n raster) c .level) (sym e)
       (level-reached (inCodeOrder n raster) c (topLevel n c) (subst (λ (k : ℕ). alike (inCodeOrder n raster) (getD (inCodeOrder n raster) c 0) c (4 ^ k) ≡ true) e (g .one-colour)))

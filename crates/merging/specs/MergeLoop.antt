@@ -15,7 +15,7 @@ use Rattle.quadtree.specs.Quadtree.{quadtree}
 use Rattle.quadtree.specs.Painting.{pixels-quadtree}
 use Rattle.quadtree.specs.Raster.{place, inCodeOrder}
 use Rattle.quadtree.specs.Orders.{in-code-order-at, place-in}
-use Rattle.quadtree.specs.Merging.{blockAt, mergedFrom, merged-more, merged-end, level-below}
+use Rattle.quadtree.specs.Merging.{blockFrom, mergedFrom, merged-more, merged-end, level-below}
 use Rattle.quadtree.specs.Merged.{merged-is-quadtree}
 use Rattle.squares.specs.Fours.{fourStored}
 use Rattle.squares.specs.Quadrants.{FourPlaces, four-places, level-of-other}
@@ -109,8 +109,8 @@ module _ {n : ℕ} {raster codes₀ levels₀ colours₀ : List ℕ} (room : Blo
       pub in-image : c < 4 ^ n
       in-image = omega (arith, room .whole)
 
-      pub turn : {level : ℕ} → level ≡ blockAt n (inCodeOrder n raster) c .level → Turn n raster codes₁ levels₁ colours₁ count c level
-      unfolding blockAt
+      pub turn : {level : ℕ} → level ≡ blockFrom n (inCodeOrder n raster) c .level → Turn n raster codes₁ levels₁ colours₁ count c level
+      unfolding blockFrom
       turn {level} e =
           let px = inCodeOrder n raster in
           let fits = top-level-fits n c in-image in
@@ -126,15 +126,15 @@ module _ {n : ℕ} {raster codes₀ levels₀ colours₀ : List ℕ} (room : Blo
           }
 
       -- The pixels of the next block.
-      pub next-pixels : {level added : ℕ} → level ≡ blockAt n (inCodeOrder n raster) c .level → added ≡ pixelsOf level → added ≡ 4 ^ level
+      pub next-pixels : {level added : ℕ} → level ≡ blockFrom n (inCodeOrder n raster) c .level → added ≡ pixelsOf level → added ≡ 4 ^ level
       next-pixels {level} {added} e a = a ∙ pixels-are-power level (omega (arith, turn e .low))
 
-      pub merging-more : {level colour : ℕ} → level ≡ blockAt n (inCodeOrder n raster) c .level → colour ≡ getD raster (place n c) 0
+      pub merging-more : {level colour : ℕ} → level ≡ blockFrom n (inCodeOrder n raster) c .level → colour ≡ getD raster (place n c) 0
           → Merging n raster codes₀ levels₀ colours₀ (set codes₁ count c) (set levels₁ count level) (set colours₁ count colour) (count + 1) (c + 4 ^ level)
-      unfolding blockAt
+      unfolding blockFrom
       merging-more {level} {colour} el ek =
           let px = inCodeOrder n raster in
-          let b = blockAt n px c in
+          let b = blockFrom n px c in
           let same : colour ≡ b .colour = ek ∙ sym (in-code-order-at n raster c in-image) in
           let t = turn el in
           let fewer : count < 4 ^ n = omega (arith, in-image, m .few) in
@@ -169,7 +169,7 @@ module _ {n : ℕ} {raster codes₀ levels₀ colours₀ : List ℕ} (room : Blo
 
   -- A single pixel written, its colour read at its place.
   merging-single : {codes₁ levels₁ colours₁ : List ℕ} {count c colour : ℕ} (m : Merging n raster codes₀ levels₀ colours₀ codes₁ levels₁ colours₁ count c)
-      (count′ c′ : ℕ) → count + 1 ≡ count′ → c + 1 ≡ c′ → c < length raster → 0 ≡ blockAt n (inCodeOrder n raster) c .level → colour ≡ getD raster (place n c) 0
+      (count′ c′ : ℕ) → count + 1 ≡ count′ → c + 1 ≡ c′ → c < length raster → 0 ≡ blockFrom n (inCodeOrder n raster) c .level → colour ≡ getD raster (place n c) 0
       → Merging n raster codes₀ levels₀ colours₀ (set codes₁ count c) (set levels₁ count 0) (set colours₁ count colour) count′ c′
   merging-single {codes₁} {levels₁} {colours₁} {count} {c} {colour} m count′ c′ e f inside el ek =
       let next : c + 4 ^ 0 ≡ c′ = f in
@@ -177,15 +177,15 @@ module _ {n : ℕ} {raster codes₀ levels₀ colours₀ : List ℕ} (room : Blo
       (subst (Merging n raster codes₀ levels₀ colours₀ (set codes₁ count c) (set levels₁ count 0) (set colours₁ count colour) (count + 1)) next (merging-more m inside el ek))
 
   -- A code that is no multiple of 4 has a single pixel.
-  single-after : (c : ℕ) → (c % 4 ≡ 0 → ⊥) → 0 ≡ blockAt n (inCodeOrder n raster) c .level
-  unfolding blockAt
+  single-after : (c : ℕ) → (c % 4 ≡ 0 → ⊥) → 0 ≡ blockFrom n (inCodeOrder n raster) c .level
+  unfolding blockFrom
   single-after c h =
       let top : topLevel n c ≡ 0 = level-of-other c (topLevel n c) (level-divides n c) h in
       omega (arith, level-below (inCodeOrder n raster) c (topLevel n c))
 
   -- Four single pixels from a multiple of 4 on, at the place `at` in rows of w.
   module _ {codes₁ levels₁ colours₁ : List ℕ} {count c level at w : ℕ} (m : Merging n raster codes₀ levels₀ colours₀ codes₁ levels₁ colours₁ count c) (inside : c < length raster)
-      (el : level ≡ blockAt n (inCodeOrder n raster) c .level) (ea : at ≡ place n c) (ew : w ≡ sideOf n) (first : level + c % 4 ≡ 0) (some : 0 < n) where
+      (el : level ≡ blockFrom n (inCodeOrder n raster) c .level) (ea : at ≡ place n c) (ew : w ≡ sideOf n) (first : level + c % 4 ≡ 0) (some : 0 < n) where
     multiple : c % 4 ≡ 0
     multiple = omega arith
 

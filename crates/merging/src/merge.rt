@@ -5,7 +5,7 @@ ghost use mathlib.Core.Path.{_≡_};
 ghost use Prim.Native.Nat.{_+_, _^_, _<_};
 ghost use lib.ListN.{length};
 ghost use Rattle.quadtree.specs.Raster.{inCodeOrder};
-ghost use Rattle.quadtree.specs.Merging.{blockAt};
+ghost use Rattle.quadtree.specs.Merging.{blockFrom};
 ghost use Rattle.squares.specs.Fours.{fourStored};
 ghost use Rattle.merging.specs.MergeLoop.{RasterOf, BlocksFit, Merged};
 
@@ -13,7 +13,7 @@ ghost use Rattle.merging.specs.MergeLoop.{RasterOf, BlocksFit, Merged};
 // the level that the zeros ending the code leave open.
 fn level_at(n: u32, raster: &[u8], c: u32) -> u32
     requires { ⌜ RasterOf n (now raster) × (c < 4 ^ n) ⌝ }
-    ensures { λ r. ⌜ r ≡ blockAt n (inCodeOrder n (now (raster .entry))) c .level ⌝ }
+    ensures { λ r. ⌜ r ≡ blockFrom n (inCodeOrder n (now (raster .entry))) c .level ⌝ }
 {
     let top = location::top_level(n, c);
     let w = location::side(n);

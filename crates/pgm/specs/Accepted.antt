@@ -21,7 +21,7 @@ use Rattle.pgm.specs.declared.Picture.{Picture}
 use Rattle.pgm.specs.declared.samples.PowerOfTwo.{PowerOfTwo}
 
 -- A file of side 2^n, n from 0 to 8, with maxval from 1 to 255, a raster of exactly width times height bytes, and no sample above maxval.
-pub record Accepted (bytes : List ℕ) (n maxval : ℕ) (raster : List ℕ) : Type 0 where
+pub record AcceptedPicture (bytes : List ℕ) (n maxval : ℕ) (raster : List ℕ) : Type 0 where
   pub file : File bytes (record { width = 2 ^ n; height = 2 ^ n; maxval = maxval }) raster
   pub side : n ≤ 8
   pub low : 1 ≤ maxval
@@ -65,7 +65,7 @@ unfolding answer picture next said
 no-file-answer bytes d = ap (λ p. said bytes (next p judged)) (bad-header-exactly bytes .1 d)
 
 -- An accepted picture gives n, maxval and the stretch that is the raster.
-module _ (bytes raster : List ℕ) (n m : ℕ) (a : Accepted bytes n m raster) where
+module _ (bytes raster : List ℕ) (n m : ℕ) (a : AcceptedPicture bytes n m raster) where
   pub accepted-answer : _≡_ {A = Picture} (answer bytes) (record { number = 0; n = n; maxval = m; start = length bytes - length raster; length = length raster })
   unfolding said
   accepted-answer =
@@ -82,7 +82,7 @@ module _ (bytes raster : List ℕ) (n m : ℕ) (a : Accepted bytes n m raster) w
 
 -- Each file that passes is accepted.
 made-accepted : {bytes raster : List ℕ} {n w h m : ℕ} → File bytes (record { width = w; height = h; maxval = m }) raster → 2 ^ n ≡ w → w ≡ h
-    → n ≤ 8 → 1 ≤ m → m ≤ 255 → length raster ≡ w * h → within m raster ≡ true → Accepted bytes n m raster
+    → n ≤ 8 → 1 ≤ m → m ≤ 255 → length raster ≡ w * h → within m raster ≡ true → AcceptedPicture bytes n m raster
 made-accepted {bytes} {raster} {n} {w} {h} {m} x power equal side low high full each =
     record {
       file = subst⁻¹ (λ (a : ℕ). File bytes (record { width = a; height = 2 ^ n; maxval = m }) raster) power
@@ -95,7 +95,7 @@ made-accepted {bytes} {raster} {n} {w} {h} {m} x power equal side low high full 
     }
 
 passed-accepted : (bytes raster rest : List ℕ) (f g : Fields) → File bytes f raster → judged f raster ≡ got g rest
-    → Accepted bytes (sideN (exponent (f .width))) (f .maxval) raster
+    → AcceptedPicture bytes (sideN (exponent (f .width))) (f .maxval) raster
 unfolding judged square ranged filled
 passed-accepted bytes raster rest f g x e =
     let (s, e1) = demand-passed 11 (square f) _ e in
@@ -136,7 +136,7 @@ pub record Passed (bytes : List ℕ) : Type 0 where
   pub n : ℕ
   pub maxval : ℕ
   pub raster : List ℕ
-  pub accepted : Accepted bytes n maxval raster
+  pub accepted : AcceptedPicture bytes n maxval raster
 
 pub accepted-or-refused : (bytes : List ℕ) → Passed bytes ⊎ Refused bytes
 accepted-or-refused bytes = go (header bytes) refl

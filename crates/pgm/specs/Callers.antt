@@ -10,7 +10,7 @@ use lib.Seq.{getD-take, getD-drop}
 use Rattle.sequences.specs.Powers.{square-of-side}
 use Rattle.pgm.specs.Picture.{refusal, answer, stretch, Answered, HandedBack}
 use Rattle.headers.specs.FileLaws.{raster-short}
-use Rattle.pgm.specs.Accepted.{Accepted, Passed, Refused, accepted-answer, accepted-stretch, accepted-or-refused}
+use Rattle.pgm.specs.Accepted.{AcceptedPicture, Passed, Refused, accepted-answer, accepted-stretch, accepted-or-refused}
 use Rattle.pgm.specs.declared.Picture.{Picture}
 
 module _ (bytes : List ℕ) where
@@ -22,14 +22,14 @@ module _ (bytes : List ℕ) where
   passed-stretch p = accepted-stretch bytes (p .raster) (p .n) (p .maxval) (p .accepted)
 
   -- Number 0 is said of accepted pictures alone.
-  pub zero-accepted : answer bytes .number ≡ 0 → Accepted bytes (answer bytes .n) (answer bytes .maxval) (stretch bytes)
+  pub zero-accepted : answer bytes .number ≡ 0 → AcceptedPicture bytes (answer bytes .n) (answer bytes .maxval) (stretch bytes)
   unfolding refusal
   zero-accepted z = ⊎-elim passed refused (accepted-or-refused bytes)
     where
-      passed : Passed bytes → Accepted bytes (answer bytes .n) (answer bytes .maxval) (stretch bytes)
+      passed : Passed bytes → AcceptedPicture bytes (answer bytes .n) (answer bytes .maxval) (stretch bytes)
       passed p = rw (passed-answer p, passed-stretch p) (p .accepted)
 
-      refused : Refused bytes → Accepted bytes (answer bytes .n) (answer bytes .maxval) (stretch bytes)
+      refused : Refused bytes → AcceptedPicture bytes (answer bytes .n) (answer bytes .maxval) (stretch bytes)
       refused r = absurd (omega (arith, z, ap (λ (p : Picture). p .number) (r .says), r .least))
 
   pub zero-exactly : answer bytes .number ≡ 0 ↔ Passed bytes
@@ -107,7 +107,7 @@ module _ (bytes after : List ℕ) (r : Picture) (a : Answered bytes after r) whe
 
 -- What it says of an accepted picture: n at most 8, 4^n samples up to the end of the bytes, none above maxval.
 module _ (bytes after : List ℕ) (r : Picture) (a : Answered bytes after r) (z : r .number ≡ 0) where
-  pub accepted : Accepted bytes (r .n) (r .maxval) (stretch bytes)
+  pub accepted : AcceptedPicture bytes (r .n) (r .maxval) (stretch bytes)
   accepted = rw (a .answered) (zero-accepted bytes (ap (λ (p : Picture). p .number) (sym (a .answered)) ∙ z))
 
   pub side-at-most-8 : r .n ≤ 8

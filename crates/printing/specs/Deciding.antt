@@ -13,7 +13,7 @@ use Rattle.pgm.specs.Callers.{accepted, part-inside, part-is-stretch}
 use Rattle.pgm.specs.declared.Picture.{Picture}
 use Rattle.sequences.specs.Powers.{square-of-side}
 use Rattle.printing.specs.Outlines.{imageText, image-text-fits}
-use Rattle.printing.specs.Picturing.{Drawing, few-pixels}
+use Rattle.printing.specs.Picturing.{RasterFits, few-pixels}
 use Rattle.printing.specs.Printed.{inputNumber, pictureText, Printing, Refusing}
 use Rattle.printing.specs.Printable.{too-long, by-picture, refusal-range, refusal-printed, short-printed, picture-printed, side-at-most-64}
 
@@ -63,7 +63,7 @@ module _ {bytes after : List ℕ} {p : Picture} (short : length bytes ≤ 8192) 
           let e : p .start + p .length - p .start ≡ p .length = omega arith in
           ap (λ (k : ℕ). take k (drop (p .start) bytes)) e ∙ part-is-stretch bytes after p a
 
-      pub drawing : {text : List ℕ} → 26 * whole ≤ length text → Drawing (p .n) (take (p .start + p .length - p .start) (drop (p .start) bytes)) text
+      pub drawing : {text : List ℕ} → 26 * whole ≤ length text → RasterFits (p .n) (take (p .start + p .length - p .start) (drop (p .start) bytes)) text
       drawing h = record {
         low = low;
         whole = ap length part ∙ accepted bytes after p a z .full ∙ square-of-side (p .n);

@@ -26,7 +26,7 @@ use Rattle.held.specs.Held.{cyclesHeld, cycles-read-back}
 use Rattle.printing.specs.Writing.{Drawable}
 
 -- What is asked for the lines of a raster: a side of at most 64, and a text list of at least the need.
-pub record Drawing (n : ℕ) (raster text : List ℕ) : Type 0 where
+pub record RasterFits (n : ℕ) (raster text : List ℕ) : Type 0 where
   pub low : n ≤ 6
   pub whole : length raster ≡ 4 ^ n
   pub enough : 26 * 4 ^ n ≤ length text
@@ -61,7 +61,7 @@ module _ {n : ℕ} {raster cs ls ks cs₁ ls₁ ks₁ : List ℕ} {r : Written} 
   count-in-colours = over-holds (blocksWritten n raster cs ls ks) (λ (b : Block). b .colour) ks (p .in-colours) count-is
 
 -- The quadtree of the raster is merged into lists that have room for it.
-module _ {n : ℕ} {raster text cs ls ks cs₁ ls₁ ks₁ : List ℕ} {r : Written} (d : Drawing n raster text) (p : FromRaster n raster cs ls ks cs₁ ls₁ ks₁ r)
+module _ {n : ℕ} {raster text cs ls ks cs₁ ls₁ ks₁ : List ℕ} {r : Written} (d : RasterFits n raster text) (p : FromRaster n raster cs ls ks cs₁ ls₁ ks₁ r)
     (a : 4096 ≤ length cs) (b : 4096 ≤ length ls) (c : 4096 ≤ length ks) where
   merged-zero : r .number ≡ 0
   merged-zero =
@@ -86,13 +86,13 @@ module _ {n : ℕ} {raster text cs ls ks cs₁ ls₁ ks₁ : List ℕ} {r : Writ
   merged-drawn {text₁} {text′} {k} q = subst (λ (px : List ℕ). Put (imageText n px) text₁ text′ k) merged-image q
 
 -- The lists of a tracing, before (os₀, es₀, cs₀) and after, hold the outlines of an image.
-pub record Outlined (n : ℕ) (px os₀ es₀ cs₀ os es cs : List ℕ) (count : ℕ) : Type 0 where
+pub record OutlinesHeld (n : ℕ) (px os₀ es₀ cs₀ os es cs : List ℕ) (count : ℕ) : Type 0 where
   pub counted : count ≡ length (imageOutlines n px)
   pub in-owners : os ≡ over (owners (imageOutlines n px)) os₀
   pub in-ends : es ≡ over (ends (imageOutlines n px)) es₀
   pub in-corners : cs ≡ over (allCorners (imageOutlines n px)) cs₀
 
-module _ {n : ℕ} {px os₀ es₀ cs₀ os es cs : List ℕ} {count : ℕ} (small : n ≤ 8) (o : Outlined n px os₀ es₀ cs₀ os es cs count) where
+module _ {n : ℕ} {px os₀ es₀ cs₀ os es cs : List ℕ} {count : ℕ} (small : n ≤ 8) (o : OutlinesHeld n px os₀ es₀ cs₀ os es cs count) where
   held : cyclesHeld os es cs count ≡ imageOutlines n px
   held = rw (o .counted, o .in-owners, o .in-ends, o .in-corners) (cycles-read-back (imageOutlines n px) os₀ es₀ cs₀)
 

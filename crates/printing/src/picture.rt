@@ -4,7 +4,7 @@ ghost use Rattle.quadtree.specs.Blocks.{blocks, paint};
 ghost use Rattle.quadtree.specs.Raster.{inCodeOrder};
 ghost use Rattle.answers.specs.Put.{Put};
 ghost use Rattle.printing.specs.Outlines.{imageText};
-ghost use Rattle.printing.specs.Picturing.{Drawing, Traceable};
+ghost use Rattle.printing.specs.Picturing.{RasterFits, Traceable};
 
 // The lines of an accepted block list.
 fn write_outlines(n: u32, codes: &[u32], levels: &[u8], colours: &[u8], text: &mut [u8]) -> usize
@@ -33,7 +33,7 @@ fn write_outlines(n: u32, codes: &[u32], levels: &[u8], colours: &[u8], text: &m
 
 // The lines of a raster: it is merged to blocks, and their outlines are written.
 pub(crate) fn write_picture(n: u32, raster: &[u8], text: &mut [u8]) -> usize
-    requires { ⌜ Drawing n (now raster) (now text) ⌝ }
+    requires { ⌜ RasterFits n (now raster) (now text) ⌝ }
     ensures { λ r. ⌜ Put (imageText n (inCodeOrder n (now (raster .entry)))) (now (text .entry)) (now (text .exit)) r ⌝ }
 {
     let mut codes = [0u32; 4096];

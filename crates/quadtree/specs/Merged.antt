@@ -12,7 +12,7 @@ use Rattle.location.specs.TopLevels.{top-exact, top-level-of-zero}
 use Rattle.quadtree.specs.Blocks.{Block}
 use Rattle.quadtree.specs.Quadtree.{alike, quadrant, quadtree}
 use Rattle.quadtree.specs.Painting.{block, quadrant-pixel, quadrant-one, quadrant-four}
-use Rattle.quadtree.specs.Merging.{levelUpTo, level-none, level-whole, level-part, blockAt, mergedFrom, merged-more, merged-end}
+use Rattle.quadtree.specs.Merging.{levelUpTo, level-none, level-whole, level-part, blockFrom, mergedFrom, merged-more, merged-end}
 
 module _ (n : ℕ) (px : List ℕ) where
   -- The square of level m at the code c comes out as its quadtree, where the code's zeros leave open no more than m.
@@ -28,7 +28,7 @@ module _ (n : ℕ) (px : List ℕ) where
 
   one-block : (l c : ℕ) → c < 4 ^ n → levelUpTo px c (topLevel n c) ≡ l
       → mergedFrom n px c ≡ block c l (getD px c 0) ∷ mergedFrom n px (c + 4 ^ l)
-  unfolding blockAt
+  unfolding blockFrom
   one-block l c h e =
       merged-more n px c h
       ∙ ap (λ (k : ℕ). block c k (getD px c 0) ∷ mergedFrom n px (c + 4 ^ k)) e

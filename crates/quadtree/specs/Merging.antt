@@ -21,15 +21,15 @@ levelUpTo px c zero = 0
 levelUpTo px c (suc l) = elim (alike px (getD px c 0) c (4 ^ suc l)) [ true ↦ suc l | false ↦ levelUpTo px c l ]
 
 -- The block that starts at the code c.
-unfoldable pub blockAt : ℕ → List ℕ → ℕ → Block
+unfoldable pub blockFrom : ℕ → List ℕ → ℕ → Block
 unfolding levelUpTo topLevel
-blockAt n px c = record { code = c; level = levelUpTo px c (topLevel n c); colour = getD px c 0 }
+blockFrom n px c = record { code = c; level = levelUpTo px c (topLevel n c); colour = getD px c 0 }
 
 -- The blocks from the code c on, at most `fuel` of them.
 unfoldable pub mergedIn : ℕ → ℕ → List ℕ → ℕ → List Block
-unfolding blockAt
+unfolding blockFrom
 mergedIn zero n px c = []
-mergedIn (suc fuel) n px c = elim (ltb c (4 ^ n)) [ true ↦ blockAt n px c ∷ mergedIn fuel n px (c + 4 ^ blockAt n px c .level) | false ↦ [] ]
+mergedIn (suc fuel) n px c = elim (ltb c (4 ^ n)) [ true ↦ blockFrom n px c ∷ mergedIn fuel n px (c + 4 ^ blockFrom n px c .level) | false ↦ [] ]
 
 -- The blocks from the code c to the image's end.
 unfoldable pub mergedFrom : ℕ → List ℕ → ℕ → List Block
@@ -61,7 +61,7 @@ unfolding mergedIn
 in-end zero n px c h = refl
 in-end (suc fuel) n px c h = rw (le-ltb c (4 ^ n) h, mergedIn)
 
-in-more : (fuel n : ℕ) (px : List ℕ) (c : ℕ) → c < 4 ^ n → mergedIn (suc fuel) n px c ≡ blockAt n px c ∷ mergedIn fuel n px (c + 4 ^ blockAt n px c .level)
+in-more : (fuel n : ℕ) (px : List ℕ) (c : ℕ) → c < 4 ^ n → mergedIn (suc fuel) n px c ≡ blockFrom n px c ∷ mergedIn fuel n px (c + 4 ^ blockFrom n px c .level)
 unfolding mergedIn
 in-more fuel n px c h = rw (lt-ltb c (4 ^ n) h, mergedIn)
 
@@ -73,9 +73,9 @@ fuel-enough (suc f) (suc g) n px c a b =
     elim (decLe (4 ^ n) c) [
       | yes h ↦ in-end (suc f) n px c h ∙ sym (in-end (suc g) n px c h)
       | no h ↦
-          let pos = pow4-pos (blockAt n px c .level) in
+          let pos = pow4-pos (blockFrom n px c .level) in
           in-more f n px c (omega arith)
-          ∙ ap (λ (t : List Block). blockAt n px c ∷ t) (fuel-enough f g n px (c + 4 ^ blockAt n px c .level) (omega arith) (omega arith))
+          ∙ ap (λ (t : List Block). blockFrom n px c ∷ t) (fuel-enough f g n px (c + 4 ^ blockFrom n px c .level) (omega arith) (omega arith))
           ∙ sym (in-more g n px c (omega arith))
     ]
 
@@ -83,11 +83,11 @@ pub merged-end : (n : ℕ) (px : List ℕ) (c : ℕ) → 4 ^ n ≤ c → mergedF
 unfolding mergedFrom
 merged-end n px c h = in-end (4 ^ n - c) n px c h
 
-pub merged-more : (n : ℕ) (px : List ℕ) (c : ℕ) → c < 4 ^ n → mergedFrom n px c ≡ blockAt n px c ∷ mergedFrom n px (c + 4 ^ blockAt n px c .level)
+pub merged-more : (n : ℕ) (px : List ℕ) (c : ℕ) → c < 4 ^ n → mergedFrom n px c ≡ blockFrom n px c ∷ mergedFrom n px (c + 4 ^ blockFrom n px c .level)
 unfolding mergedFrom
 merged-more n px c h =
     let e : 4 ^ n - c ≡ suc (4 ^ n - (c + 1)) = omega arith in
-    let pos = pow4-pos (blockAt n px c .level) in
+    let pos = pow4-pos (blockFrom n px c .level) in
     ap (λ (f : ℕ). mergedIn f n px c) e ∙ in-more (4 ^ n - (c + 1)) n px c h
-    ∙ ap (λ (t : List Block). blockAt n px c ∷ t)
-    (fuel-enough (4 ^ n - (c + 1)) (4 ^ n - (c + 4 ^ blockAt n px c .level)) n px (c + 4 ^ blockAt n px c .level) (omega arith) (omega arith))
+    ∙ ap (λ (t : List Block). blockFrom n px c ∷ t)
+    (fuel-enough (4 ^ n - (c + 1)) (4 ^ n - (c + 4 ^ blockFrom n px c .level)) n px (c + 4 ^ blockFrom n px c .level) (omega arith) (omega arith))

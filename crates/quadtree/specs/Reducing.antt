@@ -63,7 +63,7 @@ pub record SiblingBlocks (bs : List Block) (l q v : ℕ) : Type 0 where
   pub southeast : List·Memᴰ (block (q + 3 * 4 ^ l) l v) bs
 
 -- A block of a square's list lies in the square.
-pub record Inside (m c : ℕ) (b : Block) : Type 0 where
+pub record InSquare (m c : ℕ) (b : Block) : Type 0 where
   pub starts : c ≤ b .code
   pub ends : b .code + 4 ^ b .level ≤ c + 4 ^ m
   pub low : b .level ≤ m
@@ -74,10 +74,10 @@ quarter-cases : {X : Type 0} (b : Block) (P Q R S : List Block) → (List·Mem�
 quarter-cases b P Q R S f g h k i =
     ⊎-elim f (λ j. ⊎-elim g (λ e. ⊎-elim h k (List·Memᴰ·append-cases R e)) (List·Memᴰ·append-cases Q j)) (List·Memᴰ·append-cases P i)
 
-widen : {m c d : ℕ} {b : Block} → c ≤ d → d + 4 ^ m ≤ c + 4 ^ suc m → Inside m d b → Inside (suc m) c b
+widen : {m c d : ℕ} {b : Block} → c ≤ d → d + 4 ^ m ≤ c + 4 ^ suc m → InSquare m d b → InSquare (suc m) c b
 widen low high i = record { starts = omega arith; ends = omega arith; low = omega arith }
 
-pub flat-inside : (m c : ℕ) (t : Tree m) (b : Block) → List·Memᴰ b (flat m c t) → Inside m c b
+pub flat-inside : (m c : ℕ) (t : Tree m) (b : Block) → List·Memᴰ b (flat m c t) → InSquare m c b
 unfolding flat
 flat-inside m c (leaf v) b i =
     let e : b ≡ block c m v = List·Memᴰ·eq-of-singleton i in

@@ -123,7 +123,7 @@ none-left n (a ∷ b ∷ c ∷ d ∷ xs) ys h =
     siblings-next n a b c d xs (none-here n a b c d (xs ++ ys) h) ∙ none-left n (b ∷ c ∷ d ∷ xs) ys (none-next n a b c d (xs ++ ys) h)
 
 -- Where the search finds four blocks, there they are.
-pub record Found (n : ℕ) (bs : List Block) : Type 0 where
+pub record SiblingsFound (n : ℕ) (bs : List Block) : Type 0 where
   pub before : List Block
   pub a : Block
   pub b : Block
@@ -133,7 +133,7 @@ pub record Found (n : ℕ) (bs : List Block) : Type 0 where
   pub split : bs ≡ before ++ a ∷ b ∷ c ∷ d ∷ after
   pub facts : Mergeable n a b c d
 
-pub found-later : (n : ℕ) (x : Block) (bs : List Block) → Found n bs → Found n (x ∷ bs)
+pub found-later : (n : ℕ) (x : Block) (bs : List Block) → SiblingsFound n bs → SiblingsFound n (x ∷ bs)
 found-later n x bs f = record {
   before = x ∷ f .before;
   a = f .a;
@@ -145,7 +145,7 @@ found-later n x bs f = record {
   facts = f .facts;
 }
 
-pub siblings-found : (n : ℕ) (bs : List Block) → siblings n bs ≡ true → Found n bs
+pub siblings-found : (n : ℕ) (bs : List Block) → siblings n bs ≡ true → SiblingsFound n bs
 unfolding siblings
 siblings-found n [] h = absurd (false≢true h)
 siblings-found n (a ∷ []) h = absurd (false≢true h)
@@ -153,11 +153,11 @@ siblings-found n (a ∷ b ∷ []) h = absurd (false≢true h)
 siblings-found n (a ∷ b ∷ c ∷ []) h = absurd (false≢true h)
 siblings-found n (a ∷ b ∷ c ∷ d ∷ bs) h = pick (mergeable n a b c d) refl (siblings-found n (b ∷ c ∷ d ∷ bs))
   where
-    pick : (t : Bool) → mergeable n a b c d ≡ t → (siblings n (b ∷ c ∷ d ∷ bs) ≡ true → Found n (b ∷ c ∷ d ∷ bs)) → Found n (a ∷ b ∷ c ∷ d ∷ bs)
+    pick : (t : Bool) → mergeable n a b c d ≡ t → (siblings n (b ∷ c ∷ d ∷ bs) ≡ true → SiblingsFound n (b ∷ c ∷ d ∷ bs)) → SiblingsFound n (a ∷ b ∷ c ∷ d ∷ bs)
     pick true e later = record { before = []; a = a; b = b; c = c; d = d; after = bs; split = refl; facts = mergeable-facts n a b c d e }
     pick false e later = found-later n a (b ∷ c ∷ d ∷ bs) (later (sym (siblings-next n a b c d bs e) ∙ h))
 
-pub found-siblings : (n : ℕ) (bs : List Block) → Found n bs → siblings n bs ≡ true
+pub found-siblings : (n : ℕ) (bs : List Block) → SiblingsFound n bs → siblings n bs ≡ true
 found-siblings n bs f = pick (siblings n bs) refl
   where
     rest : List Block

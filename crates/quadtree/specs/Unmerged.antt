@@ -8,13 +8,13 @@ use native.Mathlib.Omega.{arith}
 use Rattle.quadtree.specs.Blocks.{Block, pixels}
 use Rattle.quadtree.specs.Number.{siblings}
 use Rattle.quadtree.specs.Covering.{Covers, covers-rest}
-use Rattle.quadtree.specs.Siblings.{Found, siblings-found}
+use Rattle.quadtree.specs.Siblings.{SiblingsFound, siblings-found}
 use Rattle.quadtree.specs.Trees.{Tree, flat, Reduced}
 use Rattle.quadtree.specs.Parsing.{tree-of-covering, covering-of-tree}
 use Rattle.quadtree.specs.Reducing.{SiblingBlocks, none-reduced, reduced-unmerged}
 
 -- The four blocks that cause 7 finds in a covering list are siblings.
-pub found-blocks : (n : ℕ) (bs : List Block) → Covers n 0 bs → (f : Found n bs) → SiblingBlocks bs (f .a .level) (f .a .code) (f .a .colour)
+pub found-blocks : (n : ℕ) (bs : List Block) → Covers n 0 bs → (f : SiblingsFound n bs) → SiblingBlocks bs (f .a .level) (f .a .code) (f .a .colour)
 unfolding Covers
 found-blocks n bs c f =
     let rest : List Block = f .a ∷ f .b ∷ f .c ∷ f .d ∷ f .after in

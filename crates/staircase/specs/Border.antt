@@ -8,17 +8,18 @@ use lib.ListN.{take}
 use Rattle.location.specs.Codes.{code}
 use Rattle.quadtree.specs.Blocks.{Block, blocks, pixels}
 use Rattle.quadtree.specs.Number.{cover, number}
+use Rattle.quadtree.specs.Accepted.{number-zero}
 use Rattle.staircase.specs.Staircase.{done, done-west, done-north, done-east, done-south, staircase}
-use Rattle.staircase.specs.FirstBlocks.{Done, done-exactly, accepted-covers}
-use Rattle.staircase.specs.Edges.{Edge, eastFrom, northFrom, leftCell, rightCell, SideOf, Border, OnePath}
-use Rattle.staircase.specs.Walk.{Stairs, walk, walk-is-the-border}
+use Rattle.staircase.specs.FirstBlocks.{Done, done-exactly}
+use Rattle.staircase.specs.Edges.{UnitEdge, eastFrom, northFrom, leftCell, rightCell, SideOf, Border, OnePath}
+use Rattle.staircase.specs.Walk.{Stairs, borderFrom, walk-is-the-border}
 
 pub done-is-stairs : (n d : ℕ) → Stairs (2 ^ n) (done n d)
 done-is-stairs n d = record { inNorth = done-north n d; inWest = done-west n d; inEast = done-east n d; inSouth = done-south n d; closed = staircase n d }
 
 -- The border where the pixels with codes below d are done, from the image's southwest corner to its northeast corner.
-unfoldable pub border : ℕ → ℕ → List Edge
-border n d = walk (done n d) (2 * 2 ^ n) 0 (2 ^ n)
+unfoldable pub border : ℕ → ℕ → List UnitEdge
+border n d = borderFrom (done n d) (2 * 2 ^ n) 0 (2 ^ n)
 
 -- "The border between done and not done, from the image's southwest corner to its northeast corner, is then exactly 2 times 2^n
 -- unit edges long" (document 01, "Regions").
@@ -28,7 +29,7 @@ border-is-one-path n d = walk-is-the-border (2 ^ n) (done n d) (done-is-stairs n
 
 -- With the northwest pixel of four done: north along the image's west side, then round that pixel.
 one-pixel-done : border 1 1 ≡ northFrom 0 2 ∷ eastFrom 0 1 ∷ northFrom 1 1 ∷ eastFrom 1 0 ∷ []
-unfolding border walk done code
+unfolding border borderFrom done code
 one-pixel-done = refl
 
 -- One of two statements holds and the other does not.
@@ -44,11 +45,11 @@ only-one-tests P Q false false p q =
     (λ o. absurd (⊎-elim (λ (a : P × ¬ Q). false≢true (p .0 (a .0))) (λ (b : (¬ P) × Q). false≢true (q .0 (b .1))) o), λ d. absurd (d refl))
 
 -- A side of the image is on the border after these blocks: of the two cells beside it one is done and the other is not.
-pub record BorderAfter (n : ℕ) (bs : List Block) (e : Edge) : Type 0 where
+pub record BorderAfter (n : ℕ) (bs : List Block) (e : UnitEdge) : Type 0 where
   pub side : SideOf (2 ^ n) e
   pub onlyOne : OnlyOne (Done n bs (leftCell e .column) (leftCell e .row)) (Done n bs (rightCell e .column) (rightCell e .row))
 
-border-tested : (n k : ℕ) (bs : List Block) → cover n 0 bs ≡ 0 → (e : Edge) → Border (2 ^ n) (done n (pixels (take k bs))) e ↔ BorderAfter n (take k bs) e
+border-tested : (n k : ℕ) (bs : List Block) → cover n 0 bs ≡ 0 → (e : UnitEdge) → Border (2 ^ n) (done n (pixels (take k bs))) e ↔ BorderAfter n (take k bs) e
 border-tested n k bs h e = (λ b. record { side = b .side; onlyOne = same .1 (b .differ) }, λ b. record { side = b .side; differ = same .0 (b .onlyOne) })
   where
     same : OnlyOne (Done n (take k bs) (leftCell e .column) (leftCell e .row)) (Done n (take k bs) (rightCell e .column) (rightCell e .row))
@@ -64,7 +65,7 @@ pub border-after-blocks : (n : ℕ) (codes levels colours : List ℕ) → number
 border-after-blocks n codes levels colours accepted k =
     let bs : List Block = blocks codes levels colours in
     let path = border-is-one-path n (pixels (take k bs)) in
-    let tested = border-tested n k bs (accepted-covers n codes levels colours accepted) in
+    let tested = border-tested n k bs (number-zero n codes levels colours accepted .covering) in
     record {
       long = path .long;
       joined = path .joined;

@@ -1,18 +1,18 @@
 -- The pixels of the first k blocks of an accepted list, and the staircase that they form.
 use mathlib.Core.Path.{_≡_, refl, sym, ap, _∙_, subst}
 use mathlib.Core.Logic.{_⊎_, inl, inr, _↔_, _≢_}
-use mathlib.Core.Bool.{true, not, _&&_}
+use mathlib.Core.Bool.{true}
 use mathlib.Core.List.{List, [], _∷_, List·Memᴰ, List·Memᴰ·head, List·Memᴰ·tail, List·Memᴰ·cases-cons, List·Memᴰ·not-nil}
 use Prim.Native.Nat.{ℕ, zero, suc, _+_, _%_, _^_, _≤_, _<_}
 use native.Mathlib.Decide.{decLt}
 use native.Mathlib.Omega.{arith}
-use lib.Dec.{ltb, eqb}
 use lib.ListN.{length, take, getD}
-use Rattle.sequences.specs.Cases.{first, when, first-zero}
+use Rattle.sequences.specs.Cases.{first-zero}
 use Rattle.location.specs.Codes.{code}
 use Rattle.location.specs.Squares.{square-in-image}
 use Rattle.quadtree.specs.Blocks.{Block, blocks, pixels}
-use Rattle.quadtree.specs.Number.{faultOf, cover, siblings, number}
+use Rattle.quadtree.specs.Number.{faultOf, cover, number}
+use Rattle.quadtree.specs.Accepted.{number-zero}
 use Rattle.quadtree.specs.Covering.{cover-first, cover-zero-end, no-fault}
 use Rattle.staircase.specs.Staircase.{done, done-west, done-north, done-inside, pixel-done, code-grows, staircase, DonePixel}
 
@@ -125,15 +125,6 @@ all-from n sum (b ∷ bs) most h =
 pub all-pixels : (n : ℕ) (bs : List Block) → cover n 0 bs ≡ 0 → pixels bs ≡ 4 ^ n
 all-pixels n bs h = omega (arith, all-from n 0 bs (omega arith) h)
 
-pub accepted-covers : (n : ℕ) (codes levels colours : List ℕ) → number n codes levels colours ≡ 0 → cover n 0 (blocks codes levels colours) ≡ 0
-unfolding number
-accepted-covers n codes levels colours h =
-    let merged : ℕ = when (siblings n (blocks codes levels colours)) 7 in
-    let covered : ℕ = first (cover n 0 (blocks codes levels colours)) merged in
-    let unlike : ℕ = when (not (eqb (length codes) (length levels) && eqb (length levels) (length colours))) 2 in
-    let lists : first unlike covered ≡ 0 = first-zero (when (ltb 8 n) 1) (first unlike covered) h .1 in
-    first-zero (cover n 0 (blocks codes levels colours)) merged (first-zero unlike covered lists .1) .0
-
 -- A cell of the image with a margin is done after these blocks: north and west of the image always, in the image where one of
 -- the blocks holds the pixel, south and east of it never (document 01, "Regions").
 unfoldable pub Done : ℕ → List Block → ℕ → ℕ → Type 0
@@ -166,7 +157,7 @@ pub pixels-done-form-a-staircase : (n : ℕ) (codes levels colours : List ℕ) �
     → InOneOf (take k (blocks codes levels colours)) (code n x y) → InOneOf (take k (blocks codes levels colours)) (code n x′ y′)
 pixels-done-form-a-staircase n codes levels colours accepted k x y x′ y′ p q a b i =
     let bs : List Block = blocks codes levels colours in
-    let h : cover n 0 bs ≡ 0 = accepted-covers n codes levels colours accepted in
+    let h : cover n 0 bs ≡ 0 = number-zero n codes levels colours accepted .covering in
     let l : code n x y < pixels (take k bs) = in-first-blocks n k bs (code n x y) h .0 i in
     in-first-blocks n k bs (code n x′ y′) h .1 (omega (arith, code-grows n x y x′ y′ a b p q))
 
@@ -176,5 +167,5 @@ pub cells-done-form-a-staircase : (n : ℕ) (codes levels colours : List ℕ) �
     → Done n (take k (blocks codes levels colours)) column row → Done n (take k (blocks codes levels colours)) column′ row′
 cells-done-form-a-staircase n codes levels colours accepted k column row column′ row′ a b t =
     let bs : List Block = blocks codes levels colours in
-    let same = done-exactly n k bs (accepted-covers n codes levels colours accepted) in
+    let same = done-exactly n k bs (number-zero n codes levels colours accepted .covering) in
     same column′ row′ .1 (staircase n (pixels (take k bs)) column row column′ row′ a b (same column row .0 t))

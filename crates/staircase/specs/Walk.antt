@@ -9,7 +9,7 @@ use native.Mathlib.Nat.{eq-or-lt-of-le}
 use native.Mathlib.Omega.{arith}
 use lib.ListN.{length}
 use lib.Dec.{eqb}
-use Rattle.staircase.specs.Edges.{Direction, east, north, Edge, eastFrom, northFrom, endX, endY, leftCell, rightCell, SideOf, Border, Leads, OnePath}
+use Rattle.staircase.specs.Edges.{Direction, east, north, UnitEdge, eastFrom, northFrom, endX, endY, leftCell, rightCell, SideOf, Border, Leads, OnePath}
 
 -- A test of cells is a staircase in an image of side w: done north and west of it, not done east and south, and with a cell every
 -- cell that lies no further east and south.
@@ -21,23 +21,23 @@ pub record Stairs (w : ℕ) (done : ℕ → ℕ → Bool) : Type 0 where
   pub closed : (column row column′ row′ : ℕ) → column′ ≤ column → row′ ≤ row → done column row ≡ true → done column′ row′ ≡ true
 
 -- From the point (x, y), k steps: east where the cell northeast of the point is done, else north.
-unfoldable pub walk : (ℕ → ℕ → Bool) → ℕ → ℕ → ℕ → List Edge
-walk done zero x y = []
-walk done (suc k) x y = elim (done (suc x) y) [ true ↦ eastFrom x y ∷ walk done k (suc x) y | false ↦ northFrom x y ∷ walk done k x (y - 1) ]
+unfoldable pub borderFrom : (ℕ → ℕ → Bool) → ℕ → ℕ → ℕ → List UnitEdge
+borderFrom done zero x y = []
+borderFrom done (suc k) x y = elim (done (suc x) y) [ true ↦ eastFrom x y ∷ borderFrom done k (suc x) y | false ↦ northFrom x y ∷ borderFrom done k x (y - 1) ]
 
 -- Round a pixel that is not done: north along its west side, then east along its north side. Its cell is (1, 1), and the cells of
 -- column 0 and of row 0 are done.
-round-one-pixel : walk (λ column row. eqb (column * row) 0) 2 0 1 ≡ northFrom 0 1 ∷ eastFrom 0 0 ∷ []
-unfolding walk
+round-one-pixel : borderFrom (λ column row. eqb (column * row) 0) 2 0 1 ≡ northFrom 0 1 ∷ eastFrom 0 0 ∷ []
+unfolding borderFrom
 round-one-pixel = refl
 
-walk-east : (done : ℕ → ℕ → Bool) (k x y : ℕ) → done (suc x) y ≡ true → walk done (suc k) x y ≡ eastFrom x y ∷ walk done k (suc x) y
-unfolding walk
-walk-east done k x y h = rw (h, walk)
+walk-east : (done : ℕ → ℕ → Bool) (k x y : ℕ) → done (suc x) y ≡ true → borderFrom done (suc k) x y ≡ eastFrom x y ∷ borderFrom done k (suc x) y
+unfolding borderFrom
+walk-east done k x y h = rw (h, borderFrom)
 
-walk-north : (done : ℕ → ℕ → Bool) (k x y : ℕ) → done (suc x) y ≡ false → walk done (suc k) x y ≡ northFrom x y ∷ walk done k x (y - 1)
-unfolding walk
-walk-north done k x y h = rw (h, walk)
+walk-north : (done : ℕ → ℕ → Bool) (k x y : ℕ) → done (suc x) y ≡ false → borderFrom done (suc k) x y ≡ northFrom x y ∷ borderFrom done k x (y - 1)
+unfolding borderFrom
+walk-north done k x y h = rw (h, borderFrom)
 
 pub not-both : {t : Bool} → t ≡ true → t ≡ false → ⊥
 not-both p q = true≢false (sym p ∙ q)
@@ -90,16 +90,16 @@ pub record At (w : ℕ) (done : ℕ → ℕ → Bool) (k x y : ℕ) : Type 0 whe
 
 -- Of the edges `path` from (x, y) on: they are k, lead to the northeast corner, lie ahead, belong to the border, are all of the
 -- border that lies ahead, and none stands twice.
-record Rest (w : ℕ) (done : ℕ → ℕ → Bool) (k x y : ℕ) (path : List Edge) : Type 0 where
+record Rest (w : ℕ) (done : ℕ → ℕ → Bool) (k x y : ℕ) (path : List UnitEdge) : Type 0 where
   long : length path ≡ k
   joined : Leads x y path w 0
-  ahead : (e : Edge) → List·Memᴰ e path → (x ≤ e .x) × (e .y ≤ y)
-  sound : (e : Edge) → List·Memᴰ e path → Border w done e
+  ahead : (e : UnitEdge) → List·Memᴰ e path → (x ≤ e .x) × (e .y ≤ y)
+  sound : (e : UnitEdge) → List·Memᴰ e path → Border w done e
   everyEast : (x′ y′ : ℕ) → Border w done (eastFrom x′ y′) → x ≤ x′ → List·Memᴰ (eastFrom x′ y′) path
   everyNorth : (x′ y′ : ℕ) → Border w done (northFrom x′ y′) → y′ ≤ y → List·Memᴰ (northFrom x′ y′) path
   once : List·Nodup path
 
-new-edge : (e : Edge) (es : List Edge) → (List·Memᴰ e es → ⊥) → List·Nodup es → List·Nodup (e ∷ es)
+new-edge : (e : UnitEdge) (es : List UnitEdge) → (List·Memᴰ e es → ⊥) → List·Nodup es → List·Nodup (e ∷ es)
 new-edge e es fresh rest = nodup-cons .1 (λ m. ∥∥₁-elim m ⊥-prop fresh, rest)
 
 module _ (w : ℕ) (done : ℕ → ℕ → Bool) (s : Stairs w done) where
@@ -163,7 +163,7 @@ module _ (w : ℕ) (done : ℕ → ℕ → Bool) (s : Stairs w done) where
         left = omega arith;
       }
 
-  rest-east : (k x y : ℕ) (path : List Edge) → At w done (suc k) x y → done (suc x) y ≡ true → Rest w done k (suc x) y path → Rest w done (suc k) x y (eastFrom x y ∷ path)
+  rest-east : (k x y : ℕ) (path : List UnitEdge) → At w done (suc k) x y → done (suc x) y ≡ true → Rest w done k (suc x) y path → Rest w done (suc k) x y (eastFrom x y ∷ path)
   unfolding Leads endX endY
   rest-east k x y path a h r =
       record {
@@ -176,8 +176,8 @@ module _ (w : ℕ) (done : ℕ → ℕ → Bool) (s : Stairs w done) where
         once = new-edge (eastFrom x y) path (λ m. omega (arith, r .ahead (eastFrom x y) m)) (r .once);
       }
     where
-      here : (e : Edge) → e ≡ eastFrom x y → (x ≤ e .x) × (e .y ≤ y)
-      here e q = omega (arith, ap (λ (g : Edge). g .x) q, ap (λ (g : Edge). g .y) q)
+      here : (e : UnitEdge) → e ≡ eastFrom x y → (x ≤ e .x) × (e .y ≤ y)
+      here e q = omega (arith, ap (λ (g : UnitEdge). g .x) q, ap (λ (g : UnitEdge). g .y) q)
 
       mine : Border w done (eastFrom x y)
       mine = border-east w done x y (east-room k x y a h) (a .above) h (a .southeast)
@@ -206,7 +206,7 @@ module _ (w : ℕ) (done : ℕ → ℕ → Bool) (s : Stairs w done) where
         left = omega arith;
       }
 
-  rest-north : (k x y : ℕ) (path : List Edge) → At w done (suc k) x y → done (suc x) y ≡ false → Rest w done k x (y - 1) path → Rest w done (suc k) x y (northFrom x y ∷ path)
+  rest-north : (k x y : ℕ) (path : List UnitEdge) → At w done (suc k) x y → done (suc x) y ≡ false → Rest w done k x (y - 1) path → Rest w done (suc k) x y (northFrom x y ∷ path)
   unfolding Leads endX endY
   rest-north k x y path a h r =
       record {
@@ -222,8 +222,8 @@ module _ (w : ℕ) (done : ℕ → ℕ → Bool) (s : Stairs w done) where
       positive : 0 < y
       positive = north-room k x y h
 
-      here : (e : Edge) → e ≡ northFrom x y → (x ≤ e .x) × (e .y ≤ y)
-      here e q = omega (arith, ap (λ (g : Edge). g .x) q, ap (λ (g : Edge). g .y) q)
+      here : (e : UnitEdge) → e ≡ northFrom x y → (x ≤ e .x) × (e .y ≤ y)
+      here e q = omega (arith, ap (λ (g : UnitEdge). g .x) q, ap (λ (g : UnitEdge). g .y) q)
 
       mine : Border w done (northFrom x y)
       mine = border-north w done x y (a .inside) positive (a .above) (a .northwest) h
@@ -236,18 +236,18 @@ module _ (w : ℕ) (done : ℕ → ℕ → Bool) (s : Stairs w done) where
       first x′ y′ b (inr l) = List·Memᴰ·tail (r .everyNorth x′ y′ b (omega arith))
 
   -- The walk from any point with the invariant.
-  rest-of-walk : (k x y : ℕ) → At w done k x y → Rest w done k x y (walk done k x y)
-  unfolding walk
+  rest-of-walk : (k x y : ℕ) → At w done k x y → Rest w done k x y (borderFrom done k x y)
+  unfolding borderFrom
   rest-of-walk zero x y a = rest-end x y a
   rest-of-walk (suc k) x y a = pick (rest-of-walk k (suc x) y) (rest-of-walk k x (y - 1)) (done (suc x) y) refl
     where
-      pick : (At w done k (suc x) y → Rest w done k (suc x) y (walk done k (suc x) y)) → (At w done k x (y - 1) → Rest w done k x (y - 1) (walk done k x (y - 1)))
-          → (t : Bool) → done (suc x) y ≡ t → Rest w done (suc k) x y (walk done (suc k) x y)
-      pick goes up true h = subst (Rest w done (suc k) x y) (sym (walk-east done k x y h)) (rest-east k x y (walk done k (suc x) y) a h (goes (at-east k x y a h)))
-      pick goes up false h = subst (Rest w done (suc k) x y) (sym (walk-north done k x y h)) (rest-north k x y (walk done k x (y - 1)) a h (up (at-north k x y a h)))
+      pick : (At w done k (suc x) y → Rest w done k (suc x) y (borderFrom done k (suc x) y)) → (At w done k x (y - 1) → Rest w done k x (y - 1) (borderFrom done k x (y - 1)))
+          → (t : Bool) → done (suc x) y ≡ t → Rest w done (suc k) x y (borderFrom done (suc k) x y)
+      pick goes up true h = subst (Rest w done (suc k) x y) (sym (walk-east done k x y h)) (rest-east k x y (borderFrom done k (suc x) y) a h (goes (at-east k x y a h)))
+      pick goes up false h = subst (Rest w done (suc k) x y) (sym (walk-north done k x y h)) (rest-north k x y (borderFrom done k x (y - 1)) a h (up (at-north k x y a h)))
 
   -- From the southwest corner the walk is the border of the staircase, each side once.
-  pub walk-is-the-border : OnePath w (Border w done) (walk done (2 * w) 0 w)
+  pub walk-is-the-border : OnePath w (Border w done) (borderFrom done (2 * w) 0 w)
   walk-is-the-border =
       record {
         long = rest .long;
@@ -260,12 +260,12 @@ module _ (w : ℕ) (done : ℕ → ℕ → Bool) (s : Stairs w done) where
       start =
           record { inside = omega arith; above = omega arith; northwest = s .inWest w; southeast = s .inSouth 1 (suc w) (omega arith) (omega arith); left = omega arith }
 
-      rest : Rest w done (2 * w) 0 w (walk done (2 * w) 0 w)
+      rest : Rest w done (2 * w) 0 w (borderFrom done (2 * w) 0 w)
       rest = rest-of-walk (2 * w) 0 w start
 
-      turned : (x y : ℕ) (t : Direction) → Border w done (record { x = x; y = y; direction = t }) → List·Memᴰ (record { x = x; y = y; direction = t }) (walk done (2 * w) 0 w)
+      turned : (x y : ℕ) (t : Direction) → Border w done (record { x = x; y = y; direction = t }) → List·Memᴰ (record { x = x; y = y; direction = t }) (borderFrom done (2 * w) 0 w)
       turned x y east b = rest .everyEast x y b (omega arith)
       turned x y north b = rest .everyNorth x y b (omega (arith, north-side w x y (b .side)))
 
-      every : (e : Edge) → Border w done e → List·Memᴰ e (walk done (2 * w) 0 w)
+      every : (e : UnitEdge) → Border w done e → List·Memᴰ e (borderFrom done (2 * w) 0 w)
       every e b = turned (e .x) (e .y) (e .direction) b

@@ -14,7 +14,7 @@ use Rattle.lattice.specs.Parity.{isEven, even-yes, even-not}
 use Rattle.lattice.specs.Directions.{xOf, yOf}
 use Rattle.lattice.specs.CycleForm.{inside, allInside, cycleForm, parts, inside-says}
 use Rattle.decimals.specs.Decimal.{decimal, decimal-length}
-use Rattle.answers.specs.Answers.{Writes, numberOf}
+use Rattle.answers.specs.Answers.{Writes, writerNumber}
 use Rattle.answers.specs.declared.Written.{Written}
 
 -- What is written for the corner at the place i: M (byte 77), x, a space (32) and y for the first; then H (72) with x at the
@@ -38,7 +38,7 @@ unfoldable pub svgNeed : List ℕ → ℕ
 svgNeed cs = 9 + 4 * length cs
 
 unfoldable pub svgNumber : List ℕ → List ℕ → ℕ
-svgNumber cs text = numberOf 16 (cycleForm cs) (svgNeed cs) (length text)
+svgNumber cs text = writerNumber 16 (cycleForm cs) (svgNeed cs) (length text)
 
 -- What the writer of path data promises of the corners, the text before and after, and the answer.
 abbrev pub Svg : List ℕ → List ℕ → List ℕ → Written → Type 0

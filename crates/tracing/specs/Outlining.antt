@@ -14,7 +14,7 @@ use Rattle.quadtree.specs.Blocks.{Block, blocks, pixels, paint}
 use Rattle.quadtree.specs.Raster.{inRows}
 use Rattle.staircase.specs.FirstBlocks.{all-pixels}
 use Rattle.grid.specs.Listing.{Cycle, listing, owners, ends, allCorners, cycleCount, cornerCount}
-use Rattle.links.specs.Linking.{Linkable, Linked}
+use Rattle.links.specs.Linking.{Linkable, PlacesLinked}
 use Rattle.links.specs.Ahead.{marks-none}
 use Rattle.links.specs.FirstCycles.{firstCycles, length-first}
 use Rattle.links.specs.Forward.{Labelled}
@@ -82,7 +82,7 @@ module _ {n : ℕ} {codes levels labels work owned ended points : List ℕ} (ok 
       blank = λ r h. ok .zeros r (omega (arith, whole-is));
     }
 
-    module _ {linked : List ℕ} (l : Linked whole (length codes) labels work linked) where
+    module _ {linked : List ℕ} (l : PlacesLinked whole (length codes) labels work linked) where
       pub fillable : Fillable n codes levels labels linked
       fillable = record {
         levels-too = ok .equal;

@@ -8,7 +8,7 @@ ghost use Rattle.unions.specs.Pairs.{pairOf};
 ghost use Rattle.unions.specs.Representatives.{joinAt};
 ghost use Rattle.unions.specs.Counting.{below};
 ghost use Rattle.unions.specs.Roots.{Low, root};
-ghost use Rattle.unions.specs.Halving.{Found};
+ghost use Rattle.unions.specs.Halving.{RootFound};
 ghost use Rattle.unions.specs.Joining.{Forest};
 ghost use Rattle.unions.specs.RootNumbers.{numbersBelow, numberAt, nextAfter};
 
@@ -27,7 +27,7 @@ pub fn own_parents(parents: &mut [u32])
 // The root of i. Each place on the way is hung below its parent's parent.
 fn find(parents: &mut [u32], i: u32) -> u32
     requires { ⌜ (i < length (now parents)) × Low (now parents) ⌝ }
-    ensures { λ r. ⌜ Found (now (parents .entry)) i (now (parents .exit)) r ⌝ }
+    ensures { λ r. ⌜ RootFound (now (parents .entry)) i (now (parents .exit)) r ⌝ }
 {
     let mut at = i;
     loop {

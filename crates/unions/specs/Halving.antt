@@ -48,7 +48,7 @@ module _ (p : List ℕ) (low : Low p) (at q : ℕ) (inside : at < length p) (les
           ]
 
 -- The list p after the search for the root r of i in p₀: no root has changed.
-pub record Found (p₀ : List ℕ) (i : ℕ) (p : List ℕ) (r : ℕ) : Type 0 where
+pub record RootFound (p₀ : List ℕ) (i : ℕ) (p : List ℕ) (r : ℕ) : Type 0 where
   pub value : r ≡ root p₀ i
   pub roots : root p ≡ root p₀
   pub low : Low p
@@ -74,7 +74,7 @@ module _ {p₀ : List ℕ} {i : ℕ} {p : List ℕ} {at : ℕ} (s : Seeking p₀
   two-le = omega (arith, read-parent p (getD p at 0) (omega (arith, up-le, s .inside)), parent-le p (s .low) (getD p at 0))
 
   -- A place that is its own parent is the root.
-  pub finish : getD p at 0 ≡ at → Found p₀ i p at
+  pub finish : getD p at 0 ≡ at → RootFound p₀ i p at
   finish h =
       let t : parent p at ≡ at = sym (read-parent p at (s .inside)) ∙ h in
       record { value = sym (root-of-top p (s .low) at t) ∙ s .of; roots = s .roots; low = s .low; long = s .long }

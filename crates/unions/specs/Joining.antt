@@ -8,7 +8,7 @@ use lib.ListN.{length, set, length-set}
 use Rattle.unions.specs.Pairs.{Pair, pairOf}
 use Rattle.unions.specs.Representatives.{rep, joinAt}
 use Rattle.unions.specs.Roots.{Low, root, root-le, roots-join, roots-same}
-use Rattle.unions.specs.Halving.{Found}
+use Rattle.unions.specs.Halving.{RootFound}
 
 -- The forest p that came of p₀ has the roots f.
 pub record Forest (p₀ : List ℕ) (f : ℕ → ℕ) (p : List ℕ) : Type 0 where
@@ -20,7 +20,7 @@ pub unchanged : {p : List ℕ} → Low p → Forest p (root p) p
 unchanged low = record { roots = refl; low = low; long = refl }
 
 -- Two places joined: their roots were found, and the larger is hung below the smaller.
-module _ {p₀ p₁ p : List ℕ} {a b ra rb : ℕ} (first : Found p₀ a p₁ ra) (second : Found p₁ b p rb) where
+module _ {p₀ p₁ p : List ℕ} {a b ra rb : ℕ} (first : RootFound p₀ a p₁ ra) (second : RootFound p₁ b p rb) where
   root-a : ra ≡ root p a
   root-a = first .value ∙ ap (λ (f : ℕ → ℕ). f a) (sym (second .roots ∙ first .roots))
 
