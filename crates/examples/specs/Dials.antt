@@ -13,7 +13,7 @@ use Rattle.grid.specs.Listing.{Cycle, owners, ends, allCorners, pointsAt, cycle
 use Rattle.tracing.specs.Tracing.{outlinesOf}
 use Rattle.chains.specs.ChainCode.{chainOf}
 use Rattle.chains.specs.ChainForm.{chainForm, cornersOf}
-use Rattle.printing.specs.Lines.{dataOf}
+use Rattle.lines.specs.Lines.{dataOf}
 
 -- What is said of a block list:
 -- the number that the check answers;

@@ -11,8 +11,8 @@ use lib.Dec.{eqb}
 use borrow.Author.Tests.{eq-eqb, ne-eqb}
 use Rattle.sequences.specs.Powers.{pow4-mono}
 use Rattle.location.specs.Levels.{pixelsOf, pixels-are-power}
-use Rattle.listing.specs.Progress.{State, PixelsNext, StartsListed, none-listed, next-first, next-after, starts-listed-then}
-use Rattle.listing.specs.Blocks.{topOf, BlockInside, BlockNext}
+use Rattle.starts.specs.Progress.{State, PixelsNext, StartsListed, none-listed, next-first, next-after, starts-listed-then}
+use Rattle.starts.specs.Blocks.{topOf, BlockInside, BlockNext}
 
 -- The link of the block j: 1 plus the next block of its region, 0 behind the last. It stands behind the map.
 abbrev pub linkOf : ℕ → List ℕ → ℕ → ℕ

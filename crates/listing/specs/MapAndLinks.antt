@@ -15,8 +15,8 @@ use Rattle.links.specs.Candidates.{colourAt, rowsFrom}
 use Rattle.links.specs.Ahead.{Ahead}
 use Rattle.links.specs.Forward.{Labelled, rows-next, rows-none}
 use Rattle.links.specs.Relabelled.{length-as, code-as, level-as, colour-as}
-use Rattle.listing.specs.Progress.{State, LentList, CycleRoom, Listed, PixelsNext, listed-self, room-after}
-use Rattle.listing.specs.Blocks.{topOf, BlockInside}
+use Rattle.starts.specs.Progress.{State, LentList, CycleRoom, Listed, PixelsNext, listed-self, room-after}
+use Rattle.starts.specs.Blocks.{topOf, BlockInside}
 use Rattle.listing.specs.Chains.{linkOf, rowsAlong, chainFrom, ChainNext, along-none, along-some}
 
 -- The blocks of three lists that a function was lent, with their labels for colours.

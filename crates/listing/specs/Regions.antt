@@ -13,7 +13,7 @@ use Rattle.grid.specs.Listing.{keep, listing}
 use Rattle.links.specs.Candidates.{rowsFrom}
 use Rattle.links.specs.FirstCycles.{firstCycles}
 use Rattle.links.specs.Forward.{Forward, forward-begin, forward-skip, forward-chain, forward-listed, forward-end}
-use Rattle.listing.specs.Progress.{State, state, noneCounted, Listed, listed-then}
+use Rattle.starts.specs.Progress.{State, state, noneCounted, Listed, listed-then}
 use Rattle.listing.specs.Chains.{chainFrom, ChainNext, ChainListed}
 use Rattle.listing.specs.MapAndLinks.{MapAndLinks, map-and-links-after, blocks-long, colour-is, chain-is-rows, chain-next}
 

@@ -13,8 +13,8 @@ use Rattle.quadtree.specs.Raster.{place, inCodeOrder}
 use Rattle.quadtree.specs.Orders.{in-code-order-at, place-in, place-worked-out}
 use Rattle.quadtree.specs.Merging.{blockFrom}
 use Rattle.squares.specs.Quadrants.{lower-multiple}
-use Rattle.merging.specs.Growing.{level-reached, level-stopped, one-pixel}
-use Rattle.merging.specs.Others.{OthersFit, besideAlike, others-fit, others-by-codes}
+use Rattle.uniform.specs.Growing.{level-reached, level-stopped, one-pixel}
+use Rattle.uniform.specs.Others.{OthersFit, besideAlike, others-fit, others-by-codes}
 use Rattle.merging.specs.MergeLoop.{RasterOf}
 
 -- A block of level l and colour v at the code c, which lies at the place `at` in rows of w.

@@ -4,7 +4,6 @@ ghost use mathlib.Core.Path.{_≡_};
 ghost use Prim.Native.Nat.{min};
 ghost use Rattle.merging.specs.Promise.{FromRaster};
 
-mod alike;
 mod merge;
 
 // The smaller of two lengths.

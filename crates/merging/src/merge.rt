@@ -1,6 +1,6 @@
 // A raster merged into blocks: from each code on the largest block of one colour that may start there.
-use crate::alike::others_alike;
 use squares::store_four;
+use uniform::others_alike;
 ghost use mathlib.Core.Path.{_≡_};
 ghost use Prim.Native.Nat.{_+_, _^_, _<_};
 ghost use lib.ListN.{length};

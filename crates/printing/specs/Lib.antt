@@ -1,8 +1,5 @@
 -- The text of a picture.
-pub mod Lines
 pub mod Outlines
-pub mod LineEnds
-pub mod Writing
 pub mod Picturing
 pub mod Tracings
 pub mod Printed

@@ -15,7 +15,7 @@ use Rattle.grid.specs.Forms.{listed-is-cycle-form}
 use Rattle.components.specs.Numbers.{numbers, regions}
 use Rattle.components.specs.Numbered.{each-number-given}
 use Rattle.links.specs.Image.{imageOutlines}
-use Rattle.printing.specs.Lines.{lines, byCycles, AllOf, Forms, Regionwise, each-form, cycles-give-lines, cyclesNeed, cycles-need-suffices}
+use Rattle.lines.specs.Lines.{lines, byCycles, AllOf, Forms, Regionwise, each-form, cycles-give-lines, cyclesNeed, cycles-need-suffices}
 
 -- "one line a region": the whole text of the image.
 unfoldable pub imageText : ℕ → List ℕ → List ℕ

@@ -19,11 +19,11 @@ use Rattle.answers.specs.declared.Written.{Written}
 use Rattle.grid.specs.Listing.{owners, ends, allCorners}
 use Rattle.grid.specs.Stretches.{length-owners}
 use Rattle.answers.specs.Put.{Put}
-use Rattle.printing.specs.Lines.{byCycles}
+use Rattle.lines.specs.Lines.{byCycles}
 use Rattle.links.specs.Image.{imageOutlines}
 use Rattle.printing.specs.Outlines.{imageText, lines-by-cycles, outline-forms, outlines-need}
 use Rattle.held.specs.Held.{cyclesHeld, cycles-read-back}
-use Rattle.printing.specs.Writing.{Drawable}
+use Rattle.lines.specs.Writing.{Drawable}
 
 -- What is asked for the lines of a raster: a side of at most 64, and a text list of at least the need.
 pub record RasterFits (n : ℕ) (raster text : List ℕ) : Type 0 where

@@ -1,5 +1,4 @@
 // From a raster to the lines of its outlines, with all lists of the way in local arrays.
-use crate::lines;
 ghost use Rattle.quadtree.specs.Blocks.{blocks, paint};
 ghost use Rattle.quadtree.specs.Raster.{inCodeOrder};
 ghost use Rattle.answers.specs.Put.{Put};

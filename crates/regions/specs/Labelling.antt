@@ -21,7 +21,7 @@ use Rattle.components.specs.Numbers.{labels, regions}
 use Rattle.components.specs.Labels.{length-labels}
 use Rattle.components.specs.Walk.{block-count}
 use Rattle.components.specs.Walked.{labels-found, regions-found, work-cleared}
-use Rattle.regions.specs.Walk.{Walkable, Walked, few-blocks}
+use Rattle.border.specs.Walk.{Walkable, Walked, few-blocks}
 use Rattle.regions.specs.Promise.{Numbering, numbered}
 
 -- An accepted list, a label list of one entry a block, and `need` entries of the work list to clear.

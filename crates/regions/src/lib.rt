@@ -4,8 +4,6 @@ ghost use mathlib.Core.Path.{_≡_};
 ghost use Rattle.regions.specs.Promise.{Numbering};
 ghost use Rattle.regions.specs.Labelling.{Numberable, LabelsFound};
 
-mod walk;
-
 // The number of an answer, 0 for acceptance, and how many regions there are.
 pub struct Numbered {
     pub number: u32,
@@ -37,7 +35,7 @@ fn label(
         (now (work .entry)) (now (labels .exit)) (now (work .exit)) r ⌝ }
 {
     unionfind::own_parents(labels);
-    walk::walk(n, codes, levels, colours, labels, work);
+    border::walk(n, codes, levels, colours, labels, work);
     filling::fill(work, 0, need, 0);
     unionfind::number_all(labels)
 }

@@ -22,11 +22,11 @@ use Rattle.grid.specs.Bounds.{cycles-fit, corner-count-fits}
 use Rattle.links.specs.OverTwice.{over-twice}
 use Rattle.links.specs.FirstCycles.{all-regions}
 use Rattle.links.specs.Relabelled.{labels-room, relabelled, relabelled-paints, few-regions}
-use Rattle.listing.specs.Progress.{state, noneCounted}
+use Rattle.starts.specs.Progress.{state, noneCounted}
 use Rattle.tracing.specs.Outlining.{Outlinable, Outlined}
 use Rattle.tracing.specs.Tracing.{Lent, lent, tooShort, tracingNumber, outlinesOf, cyclesWritten, labelsLeft, zerosLeft, regionsListed, Tracing, Needs, needs-met, refused}
 use Rattle.tracing.specs.declared.Traced.{Traced}
-use Rattle.listing.specs.declared.Counts.{Counts}
+use Rattle.starts.specs.declared.Counts.{Counts}
 
 -- Three tests that fail, the first two of them.
 first-two : (a b c : Bool) → a || (b || c) ≡ false → a || b ≡ false

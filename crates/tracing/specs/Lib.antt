@@ -1,5 +1,4 @@
--- The map of regions, the outlines of labelled blocks, and what the tracing promises.
-pub mod Filling
+-- The outlines of labelled blocks, and what the tracing promises.
 pub mod Outlining
 pub mod Tracing
 pub mod Accepting

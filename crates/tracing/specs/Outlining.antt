@@ -20,11 +20,11 @@ use Rattle.links.specs.FirstCycles.{firstCycles, length-first}
 use Rattle.links.specs.Forward.{Labelled}
 use Rattle.links.specs.Relabelled.{length-as, colour-as}
 use Rattle.cycles.specs.Mapped.{Marked}
-use Rattle.tracing.specs.Filling.{raised, Fillable, MapFilled, map-filled}
-use Rattle.listing.specs.Progress.{State, state, noneCounted, CycleRoom, none-between}
+use Rattle.mapping.specs.Filling.{raised, Fillable, MapFilled, map-filled}
+use Rattle.starts.specs.Progress.{State, state, noneCounted, CycleRoom, none-between}
 use Rattle.listing.specs.MapAndLinks.{MapAndLinks}
 use Rattle.listing.specs.Regions.{AllListed}
-use Rattle.listing.specs.declared.Counts.{Counts}
+use Rattle.starts.specs.declared.Counts.{Counts}
 
 -- A list of blocks with labels, a work list whose first 2 times 4^n entries are 0, and room for all cycles.
 pub record Outlinable (n : ℕ) (codes levels labels : List ℕ) (s : State) : Type 0 where

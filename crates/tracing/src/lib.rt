@@ -1,14 +1,11 @@
 // The outlines of all regions of a block list: a map of region numbers, and a walk along each cycle that writes its corners.
-use listing::Counts;
+use starts::Counts;
 ghost use mathlib.Core.Path.{_≡_};
 ghost use Prim.Native.Nat.{_≤_};
-ghost use Rattle.listing.specs.Progress.{state, entryState, exitState, noneCounted};
+ghost use Rattle.starts.specs.Progress.{state, entryState, exitState, noneCounted};
 ghost use Rattle.listing.specs.MapAndLinks.{entryBlocks};
 ghost use Rattle.tracing.specs.Outlining.{Outlinable, Outlined};
 ghost use Rattle.tracing.specs.Tracing.{lent, tooShort, Tracing};
-
-mod linking;
-mod map;
 
 // The number of an answer, 0 for acceptance, and the counts of regions, of cycles and of the corners of all cycles.
 pub struct Traced {
@@ -77,8 +74,8 @@ fn outline(
 {
     let whole = location::pixels(n);
     let used = whole + codes.len();
-    linking::link(whole, codes.len(), labels, work);
-    map::fill_map(n, codes, levels, labels, work);
+    mapping::link(whole, codes.len(), labels, work);
+    mapping::fill_map(n, codes, levels, labels, work);
     let counts = listing::list_all(n, codes, levels, labels, work, owners, ends, corners);
     filling::fill(work, 0, used, 0);
     counts

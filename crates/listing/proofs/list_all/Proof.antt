@@ -2,7 +2,7 @@
 -- of the list.
 use Rattle.quadtree.specs.Blocks.{blocks}
 use Rattle.listing.specs.MapAndLinks.{blocks-few}
-use Rattle.listing.specs.Progress.{state, same-owners, same-ends, same-corners}
+use Rattle.starts.specs.Progress.{state, same-owners, same-ends, same-corners}
 use Rattle.listing.specs.Regions.{ListedTo, begin, listed-before, again, finish}
 use Prim.Native.Nat.{_-_}
 use native.Mathlib.Omega.{arith}

@@ -1,6 +1,6 @@
 -- `list_region` meets its contract. The loop's invariant: the top rows of the blocks of the chain before next - 1 are done, those from it on
 -- come next; the link of a block leads to the next one. The measure is what is left of the list.
-use Rattle.listing.specs.Progress.{state, same-owners, same-ends, same-corners}
+use Rattle.starts.specs.Progress.{state, same-owners, same-ends, same-corners}
 use Rattle.listing.specs.Chains.{ChainTo, chainLeft, first-small, chain-begin, place-now, place-small, chain-block, link-inside, link-small, chain-again, chain-less, chain-finish}
 use mathlib.Core.Path.{refl}
 use Prim.Native.Nat.{_-_, _+_, _≤_}

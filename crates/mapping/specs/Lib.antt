@@ -1,0 +1,2 @@
+-- The map filled block by block.
+pub mod Filling

@@ -1,0 +1,4 @@
+-- Squares of one colour, and a block that grows by them.
+pub mod Squares
+pub mod Growing
+pub mod Others
