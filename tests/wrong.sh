@@ -3,8 +3,8 @@
 # prover must refuse it. They have the format of must-fail edits. Run it after `rt ci` or `rt check`.
 #
 # Each is tried over the modules of its crate that were checked in this very run: `rt dev` checks the crate from nothing and has to
-# say so, and each of its edits starts from a copy of what that left. What the edit does not reach is not checked again; a module that
-# were taken as unchanged by mistake could only let an edit survive, never refuse one.
+# say so, and its edits start from a copy of what that left. What they do not reach is not checked again; a module that were taken as
+# unchanged by mistake could only let an edit survive, never refuse one. Edits of different functions are tried together.
 # The last line is `N refused, M not`; the exit status is 0 exactly where M is 0. The logs are target/wrong/NAME/LABEL/.log.
 set -u
 cd "$(dirname "$0")/.." || exit 2
@@ -92,7 +92,7 @@ own_errors() { # LOG
 # contracts of those that it calls, so what is wrong in one is no matter of the others. Where an edited function has no error of its
 # own, the edit is then tried alone.
 try() { # NAME LABEL...
-    local name=$1 label file status applied=1 said=target/said open=()
+    local name=$1 label file status applied=1 began=$SECONDS said=target/said open=()
     shift
     rm -rf target/inc touched
     cp -a seed target/inc
@@ -109,7 +109,7 @@ try() { # NAME LABEL...
         else
             mkdir -p "$root/target/wrong/$name/$label"
             cp "$said" "$root/target/wrong/$name/$label/.log"
-            echo "refused: $name/$label"
+            echo "refused: $name/$label ($((SECONDS - began)) s${2:+, $# together})"
         fi
     done
     for label in "${open[@]}"; do try "$name" "$label"; done

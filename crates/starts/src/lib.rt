@@ -104,7 +104,9 @@ pub fn list_block(
     corners: &mut [u32],
 ) -> Counts
     requires { ⌜ BlockNext n code level (state (now work) (now owners) (now ends) (now corners) counts) ⌝ }
-    ensures { λ r. ⌜ StartsListed n (topOf n code level) (entryState work owners ends corners counts) (exitState work owners ends corners r) ⌝ }
+    ensures { λ r. ⌜ StartsListed n (topOf n code level)
+        (state (now (work .entry)) (now (owners .entry)) (now (ends .entry)) (now (corners .entry)) counts)
+        (state (now (work .exit)) (now (owners .exit)) (now (ends .exit)) (now (corners .exit)) r) ⌝ }
 {
     let x = location::column(code) as u32;
     let y = location::row(code) as u32;
