@@ -122,9 +122,14 @@ pub fn alignment(c: u32) -> u32
     u32::trailing_zeros(c) / 2
 }
 
-// The largest level of a block at code c, in an image of side 2^n: "half their number, rounded down, and n for code 0".
+// The largest level of a block at code c, in an image of side 2^n: "half their number, rounded down, and n for code 0". The half is
+// written out: behind a call the compiler would work it out for code 0 too.
 pub fn top_level(n: u32, c: u32) -> u32
     ensures { λ r. ⌜ r ≡ topLevel n c ⌝ }
 {
-    if c == 0 { n } else { alignment(c) }
+    if c == 0 {
+        n
+    } else {
+        u32::trailing_zeros(c) / 2
+    }
 }
