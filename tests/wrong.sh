@@ -2,8 +2,8 @@
 # Tries the wrong programs of crates/NAME/wrong, for the crates named or for all: each is applied to a copy of its crate, and the
 # prover must refuse it. They have the format of must-fail edits. Run it after `rt ci` or `rt check`.
 #
-# Each is tried over the modules of its crate that were checked in this very run: `rt dev` checks the crate from nothing and has to
-# say so, and its edits start from a copy of what that left. What they do not reach is not checked again; a module that were taken as
+# Each is tried over the modules of its crate that were checked in this very run: the first check is one from nothing and has to say
+# so, and the others start from a copy of what it left. What they do not reach is not checked again; a module that were taken as
 # unchanged by mistake could only let an edit survive, never refuse one. Edits of different functions are tried together.
 # The last line is `N refused, M not`; the exit status is 0 exactly where M is 0. The logs are target/wrong/NAME/LABEL/.log.
 set -u
@@ -25,16 +25,19 @@ to_slot() {
     cd "$room/$SLOT" || exit 2
 }
 
-# The crate checked from nothing, whole, and proved; what that left is kept as the folder `seed`.
-seed() { # NAME
-    local said=$root/target/wrong/$1/.seed
-    mkdir -p "$root/target/wrong/$1"
-    rm -rf target/inc seed
-    if ! rt dev "$1" >"$said" 2>&1 || ! grep -q "^crate $1: modules loaded=0 checked=" "$said" || ! grep -q '^logic=proved' "$said"; then
-        echo "FAILED: $1 is not proved from nothing: $(tail -n 1 "$said")"
+# What a check from nothing left is kept as the folder `seed`.
+keep_seed() { # NAME LOG
+    grep -q "^crate $1: modules loaded=0 checked=" "$2" || echo "FAILED: $1 is not checked from nothing: $(tail -n 1 "$2")"
+    mv target/inc seed
+}
+
+# The crate checked from nothing, whole, and proved.
+prove() { # NAME
+    if ! rt dev "$1" >target/said 2>&1 || ! grep -q '^logic=proved' target/said; then
+        echo "FAILED: $1 is not proved: $(tail -n 1 target/said)"
         return 1
     fi
-    mv target/inc seed
+    keep_seed "$1" target/said
 }
 
 # Applies an edit to the crates below the present folder: a file is replaced, never written to.
@@ -88,16 +91,28 @@ own_errors() { # LOG
     grep ': error: ' "$1" | grep -v 'was not admitted'
 }
 
+# The functions that a log has as not proved by themselves and that none of the edits changes.
+strays() { # NAME LOG LABEL...
+    local name=$1 log=$2 label
+    shift 2
+    sed -n 's/^fn \(.*\): not proved$/\1/p' "$log" |
+        grep -vxFf <(for label in "$@"; do functions_of "$name" "$root/crates/$name/wrong/$label.edit"; done | sed "s,^/proofs/,$name::,; s,/,::,g")
+}
+
 # Tries edits of one crate together, each of other functions than the rest: a function is checked against its own contract and the
-# contracts of those that it calls, so what is wrong in one is no matter of the others. Where an edited function has no error of its
-# own, the edit is then tried alone.
+# contracts of those that it calls, so what is wrong in one is no matter of the others, and no other function may lose its proof.
+# Where an edited function has no error of its own, the edit is then tried alone.
 try() { # NAME LABEL...
     local name=$1 label file status applied=1 began=$SECONDS said=target/said open=()
     shift
     rm -rf target/inc touched
-    cp -a seed target/inc
+    [ ! -d seed ] || cp -a seed target/inc
     for label in "$@"; do apply "$name" "$root/crates/$name/wrong/$label.edit" || applied=0; done
-    [ "$applied" -eq 0 ] || { rt dev "$name" >"$said" 2>&1; status=$?; }
+    if [ "$applied" -eq 1 ]; then
+        rt dev "$name" >"$said" 2>&1
+        status=$?
+        [ -d seed ] || keep_seed "$name" "$said"
+    fi
     while IFS= read -r file; do ln -f "$root/$file" "$file"; done < <(cat touched 2>/dev/null)
     for label in "$@"; do
         if [ "$applied" -eq 0 ]; then
@@ -106,6 +121,8 @@ try() { # NAME LABEL...
             [ $# -gt 1 ] && open+=("$label") || echo "FAILED: $name/$label: not refused, status $status"
         elif [ $# -gt 1 ] && ! functions_of "$name" "$root/crates/$name/wrong/$label.edit" | sed 's,$,/Proof.antt:,' | grep -qFf - <(own_errors "$said"); then
             open+=("$label")
+        elif ! functions_of "$name" "$root/crates/$name/wrong/$label.edit" | grep -qx definitions && strays "$name" "$said" "$@" >&2; then
+            echo "FAILED: $name/$label: a function that it does not edit is not proved"
         else
             mkdir -p "$root/target/wrong/$name/$label"
             cp "$said" "$root/target/wrong/$name/$label/.log"
@@ -115,22 +132,28 @@ try() { # NAME LABEL...
     for label in "${open[@]}"; do try "$name" "$label"; done
 }
 
-# All edits of a crate: by groups in which no function is edited twice; edits of definitions alone.
+# All edits of a crate: those of functions by groups in which none is edited twice, those of definitions one by one. The groups get
+# smaller: what the last one edits, the others edit too, so it goes first and the others miss nothing of what it leaves.
 try_all() { # NAME
-    local edit label functions i groups=() edited=()
+    local edit label functions i groups=() edited=() definitions=()
     to_slot
-    seed "$1" || return
+    rm -rf target/inc seed
     for edit in "$root/crates/$1"/wrong/*.edit; do
         label=$(basename "$edit" .edit)
         functions=$(functions_of "$1" "$edit")
+        if grep -qx definitions <<<"$functions"; then
+            definitions+=("$label")
+            continue
+        fi
         i=0
-        [[ $functions != *definitions* ]] || i=${#groups[@]}
-        while [ "$i" -lt "${#groups[@]}" ] && grep -qxFf <(printf '%s\ndefinitions\n' "$functions") <<<"${edited[i]}"; do i=$((i + 1)); done
+        while [ "$i" -lt "${#groups[@]}" ] && grep -qxFf <(echo "$functions") <<<"${edited[i]}"; do i=$((i + 1)); done
         groups[i]+=" $label" edited[i]+=$functions$'\n'
     done
-    for i in "${!groups[@]}"; do try "$1" ${groups[i]}; done
+    [ "${#groups[@]}" -gt 0 ] || prove "$1" || return
+    for ((i = ${#groups[@]} - 1; i >= 0; i--)); do try "$1" ${groups[i]}; done
+    for label in "${definitions[@]}"; do try "$1" "$label"; done
 }
-export -f to_slot seed apply functions_of own_errors try try_all
+export -f to_slot keep_seed prove apply functions_of own_errors strays try try_all
 
 # The crates that have edits, those that take longest first: by the number of edits and the length of what is checked.
 by_length() { # NAME...

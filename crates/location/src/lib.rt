@@ -128,8 +128,8 @@ pub fn top_level(n: u32, c: u32) -> u32
     ensures { λ r. ⌜ r ≡ topLevel n c ⌝ }
 {
     if c == 0 {
-        n
-    } else {
-        u32::trailing_zeros(c) / 2
+        return n;
     }
+    let zeros = u32::trailing_zeros(c);
+    zeros / 2
 }
