@@ -8,7 +8,7 @@
 # The last line is `N refused, M not`; the exit status is 0 exactly where M is 0. The logs are target/wrong/NAME/LABEL/.log.
 set -u
 cd "$(dirname "$0")/.." || exit 2
-root=$PWD jobs=${RT_JOBS:-$(nproc)}
+root=$PWD jobs=${RT_JOBS:-$((2 * $(nproc)))}
 room=$(mktemp -d) || exit 2
 trap 'rm -rf "$room"' EXIT
 export root room

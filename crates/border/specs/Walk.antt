@@ -7,7 +7,7 @@ use lib.ListN.{length, getD, set}
 use Rattle.sequences.specs.Fill.{fill, begin as fill-begin, again as fill-again, finish}
 use Rattle.sequences.specs.Powers.{pow4-pos, pow4-mono}
 use Rattle.sequences.specs.Ranges.{range, length-range}
-use Rattle.location.specs.Codes.{column, row}
+use Rattle.interleaving.specs.Codes.{column, row}
 use Rattle.location.specs.Levels.{sideOf, side-is-power}
 use Rattle.quadtree.specs.Blocks.{Block, blocks, pixels}
 use Rattle.quadtree.specs.Accepted.{Passes}

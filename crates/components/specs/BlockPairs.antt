@@ -10,7 +10,7 @@ use native.Mathlib.Omega.{arith}
 use lib.ListN.{getD}
 use lib.Dec.{eqb}
 use borrow.Author.Tests.{eq-eqb, ne-eqb}
-use Rattle.location.specs.Codes.{code, column, row}
+use Rattle.interleaving.specs.Codes.{code, column, row}
 use Rattle.quadtree.specs.Blocks.{Block, blocks}
 use Rattle.quadtree.specs.Fields.{colours}
 use Rattle.staircase.specs.Staircase.{done}

@@ -5,8 +5,8 @@ use Prim.Native.Nat.{ℕ, zero, suc, _+_, _-_, _%_, _^_, _≤_, _<_}
 use native.Mathlib.Omega.{arith}
 use lib.ListN.{getD}
 use Rattle.sequences.specs.Powers.{pow2-pos}
-use Rattle.location.specs.Codes.{code, column, row}
-use Rattle.location.specs.Interleaving.{column-below, row-below, column-of-code, row-of-code, code-of-coordinates}
+use Rattle.interleaving.specs.Codes.{code, column, row}
+use Rattle.interleaving.specs.Interleaving.{column-below, row-below, column-of-code, row-of-code, code-of-coordinates}
 use Rattle.location.specs.Squares.{block-is-square, pixel-in-block, square-in-image}
 use Rattle.components.specs.Joined.{Step, north, west, Connected, start, connected-through, connected-step}
 

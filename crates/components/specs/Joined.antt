@@ -4,7 +4,7 @@ use mathlib.Core.Logic.{_≢_}
 use mathlib.Core.List.{List}
 use Prim.Native.Nat.{ℕ, suc, _^_, _<_}
 use lib.ListN.{getD}
-use Rattle.location.specs.Codes.{column, row}
+use Rattle.interleaving.specs.Codes.{column, row}
 
 -- One step north, east, south or west leads from the pixel with the code c to the pixel with the code d, in an image of side 2^n:
 -- x grows east and y south (document 01, "The dial as blocks"). "Touching corners join nothing" (document 01, "Regions").

@@ -5,7 +5,7 @@ use Prim.Native.Nat.{ℕ, suc, _+_, _-_, _%_, _^_, _≤_, _<_}
 use native.Mathlib.Omega.{arith}
 use lib.ListN.{length, take}
 use Rattle.sequences.specs.Powers.{pow2-pos}
-use Rattle.location.specs.Codes.{code, column, row}
+use Rattle.interleaving.specs.Codes.{code, column, row}
 use Rattle.location.specs.Squares.{block-is-square, square-in-image}
 use Rattle.quadtree.specs.Blocks.{Block, blocks, pixels}
 use Rattle.quadtree.specs.Number.{cover}

@@ -9,8 +9,8 @@ use native.Mathlib.Omega.{arith}
 use lib.ListN.{length, take, getD}
 use Rattle.sequences.specs.Maps.{getD-map}
 use Rattle.sequences.specs.Powers.{pow2-pos}
-use Rattle.location.specs.Codes.{code, column, row}
-use Rattle.location.specs.Interleaving.{column-below, row-below, column-of-code, row-of-code, code-of-coordinates, code-below}
+use Rattle.interleaving.specs.Codes.{code, column, row}
+use Rattle.interleaving.specs.Interleaving.{column-below, row-below, column-of-code, row-of-code, code-of-coordinates, code-below}
 use Rattle.location.specs.Squares.{square-in-image}
 use Rattle.quadtree.specs.Blocks.{Block, pixels, paint}
 use Rattle.quadtree.specs.Number.{cover}

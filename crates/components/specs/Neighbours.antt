@@ -8,8 +8,8 @@ use native.Mathlib.Decide.{ℕ-discrete}
 use native.Mathlib.Omega.{arith}
 use lib.ListN.{getD}
 use borrow.Author.Tests.{eq-eqb, ne-eqb}
-use Rattle.location.specs.Codes.{code, column, row}
-use Rattle.location.specs.Interleaving.{column-below, row-below, column-of-code, row-of-code, code-of-coordinates}
+use Rattle.interleaving.specs.Codes.{code, column, row}
+use Rattle.interleaving.specs.Interleaving.{column-below, row-below, column-of-code, row-of-code, code-of-coordinates}
 use Rattle.staircase.specs.Staircase.{code-grows}
 use Rattle.unions.specs.Pairs.{Pair, pairOf, Linked, same, symmetric, transitive, listed, linked-as}
 use Rattle.components.specs.Joined.{Step, north, east, south, west, Beside, Connected, start, on, connected-to, connected-through, connected-step, connected-back}

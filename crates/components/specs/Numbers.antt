@@ -5,7 +5,7 @@ use mathlib.Core.List.{List, [], _∷_, map}
 use Prim.Native.Nat.{ℕ, zero, suc, _-_, _^_}
 use lib.ListN.{getD}
 use lib.Dec.{eqb}
-use Rattle.location.specs.Codes.{code, column, row}
+use Rattle.interleaving.specs.Codes.{code, column, row}
 use Rattle.quadtree.specs.Blocks.{Block, blocks, paint}
 use Rattle.unions.specs.Pairs.{Pair, pairOf}
 use Rattle.unions.specs.Classes.{classes}

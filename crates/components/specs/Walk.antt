@@ -8,8 +8,8 @@ use native.Mathlib.Omega.{arith}
 use lib.ListN.{length, take, getD}
 use Rattle.sequences.specs.Fill.{fill}
 use Rattle.sequences.specs.Ranges.{range, length-range}
-use Rattle.location.specs.Codes.{code, column, row}
-use Rattle.location.specs.Splitting.{column-wider, row-wider}
+use Rattle.interleaving.specs.Codes.{code, column, row}
+use Rattle.interleaving.specs.Splitting.{column-wider, row-wider}
 use Rattle.location.specs.Squares.{square-in-image}
 use Rattle.quadtree.specs.Blocks.{Block, blocks, pixels}
 use Rattle.quadtree.specs.Fields.{colours, colours-of-blocks, length-blocks}

@@ -11,7 +11,7 @@ use lib.ListN.{length, take, getD, replicate, length-replicate}
 use lib.Seq.{ext-getD}
 use Rattle.sequences.specs.Fill.{fill, length-fill, fill-inside, fill-before, fill-beyond, fill-front}
 use Rattle.sequences.specs.Over.{over, length-over, over-inside, over-beyond}
-use Rattle.location.specs.Codes.{column, row}
+use Rattle.interleaving.specs.Codes.{column, row}
 use Rattle.quadtree.specs.Blocks.{blocks, pixels, paint}
 use Rattle.quadtree.specs.Accepted.{Passes}
 use Rattle.staircase.specs.Rows.{doneInRow, doneInColumn}

@@ -7,8 +7,8 @@ use native.Mathlib.Omega.{arith}
 use lib.ListN.{length, getD}
 use lib.Seq.{ext-getD}
 use Rattle.sequences.specs.Ranges.{tabulate, length-tabulate, tabulate-at}
-use Rattle.location.specs.Codes.{code}
-use Rattle.location.specs.Interleaving.{code-below}
+use Rattle.interleaving.specs.Codes.{code}
+use Rattle.interleaving.specs.Interleaving.{code-below}
 use Rattle.quadtree.specs.Raster.{place}
 use Rattle.quadtree.specs.Orders.{place-in, place-of-code}
 use Rattle.grid.specs.Map.{regionAt}

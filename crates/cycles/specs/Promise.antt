@@ -5,7 +5,7 @@ use mathlib.Core.List.{List}
 use Prim.Native.Nat.{ℕ, suc, _^_, _≤_, _<_}
 use lib.ListN.{length, getD}
 use Rattle.sequences.specs.Over.{over}
-use Rattle.location.specs.Codes.{code}
+use Rattle.interleaving.specs.Codes.{code}
 use Rattle.lattice.specs.Walks.{corners}
 use Rattle.orbits.specs.Members.{In}
 use Rattle.grid.specs.Cycles.{northSide, cycle}

@@ -8,8 +8,8 @@ use lib.Arith.{digits-lt}
 use lib.ListN.{length, getD}
 use Rattle.sequences.specs.Over.{over}
 use Rattle.sequences.specs.Powers.{square-of-side}
-use Rattle.location.specs.Codes.{code, row}
-use Rattle.location.specs.Interleaving.{column-of-code, row-of-code}
+use Rattle.interleaving.specs.Codes.{code, row}
+use Rattle.interleaving.specs.Interleaving.{column-of-code, row-of-code}
 use Rattle.location.specs.Levels.{sideOf, side-is-power}
 use Rattle.quadtree.specs.Raster.{place}
 use Rattle.quadtree.specs.Orders.{place-of-code, code-of-place}

@@ -2,7 +2,7 @@
 use steps::MARK_BIT;
 ghost use mathlib.Core.Path.{_≡_};
 ghost use Prim.Native.Nat.{_<_};
-ghost use Rattle.location.specs.Codes.{code};
+ghost use Rattle.interleaving.specs.Codes.{code};
 ghost use Rattle.lattice.specs.Directions.{point, edge};
 ghost use Rattle.cycles.specs.Marks.{mark};
 ghost use Rattle.cycles.specs.Points.{EdgeAt};

@@ -6,8 +6,8 @@ use Prim.Native.Nat.{ℕ, suc, _+_, _*_, _^_, _≤_, _<_}
 use native.Mathlib.Decide.{ℕ-discrete}
 use native.Mathlib.Omega.{arith}
 use lib.ListN.{length, getD, length-append}
-use Rattle.location.specs.Codes.{code}
-use Rattle.location.specs.Interleaving.{code-below, code-injective}
+use Rattle.interleaving.specs.Codes.{code}
+use Rattle.interleaving.specs.Interleaving.{code-below, code-injective}
 use Rattle.lattice.specs.Directions.{tail, digit}
 use Rattle.lattice.specs.Walks.{turns, lastOf, corners}
 use Rattle.lattice.specs.Corners.{turns-on, turns-turn}

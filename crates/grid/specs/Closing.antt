@@ -6,8 +6,8 @@ use Prim.Native.Nat.{ℕ, zero, suc, _/_, _%_, _≤_, _<_}
 use native.Mathlib.Nat.{not-suc-le-zero}
 use native.Mathlib.Omega.{arith}
 use lib.ListN.{length, getD}
-use Rattle.location.specs.Codes.{code}
-use Rattle.location.specs.Interleaving.{code-grows-in-x}
+use Rattle.interleaving.specs.Codes.{code}
+use Rattle.interleaving.specs.Interleaving.{code-grows-in-x}
 use Rattle.lattice.specs.Directions.{xOf, yOf, move, tail, digit, head}
 use Rattle.lattice.specs.Walks.{outline, turns, lastOf, corners}
 use Rattle.lattice.specs.Straight.{OnGrid}

@@ -4,7 +4,7 @@ use mathlib.Core.Bool.{Bool, true, false}
 use mathlib.Core.List.{List, [], _∷_}
 use Prim.Native.Nat.{ℕ}
 use lib.Dec.{eqb, leb}
-use Rattle.location.specs.Codes.{code, column, row}
+use Rattle.interleaving.specs.Codes.{code, column, row}
 use Rattle.lattice.specs.Directions.{point, xOf, yOf, edge, tail, digit}
 use Rattle.orbits.specs.Orbits.{orbit}
 use Rattle.grid.specs.Figures.{hook}

@@ -5,7 +5,7 @@ use mathlib.Core.List.{List, [], _∷_, map}
 use Prim.Native.Nat.{ℕ, zero, suc, _^_, _≤_, _<_}
 use native.Mathlib.Omega.{arith}
 use lib.ListN.{length, getD, length-map}
-use Rattle.location.specs.Codes.{code}
+use Rattle.interleaving.specs.Codes.{code}
 use Rattle.lattice.specs.Walks.{outline, corners}
 use Rattle.orbits.specs.Members.{In, Distinct, one-place}
 use Rattle.grid.specs.Map.{regionAt}

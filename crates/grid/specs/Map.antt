@@ -5,7 +5,7 @@ use mathlib.Core.List.{List}
 use Prim.Native.Nat.{ℕ, zero, suc, _^_}
 use lib.ListN.{getD}
 use lib.Dec.{ltb}
-use Rattle.location.specs.Codes.{code}
+use Rattle.interleaving.specs.Codes.{code}
 use Rattle.lattice.specs.Directions.{xOf, yOf}
 use Rattle.grid.specs.Figures.{figure5b}
 

@@ -9,8 +9,8 @@ use lib.ListN.{getD}
 use lib.Dec.{ltb}
 use borrow.Author.Tests.{lt-ltb, le-ltb}
 use Rattle.sequences.specs.Powers.{pow2-mono}
-use Rattle.location.specs.Codes.{code, column, row}
-use Rattle.location.specs.Interleaving.{column-below, row-below, code-of-coordinates}
+use Rattle.interleaving.specs.Codes.{code, column, row}
+use Rattle.interleaving.specs.Interleaving.{column-below, row-below, code-of-coordinates}
 use Rattle.grid.specs.Map.{regionAt}
 
 -- Where a map has a region, and not 0, is inside an image of side 256 at most.

@@ -6,8 +6,8 @@ use Prim.Native.Nat.{ℕ, suc, _^_, _≤_, _<_}
 use native.Mathlib.Omega.{arith}
 use lib.ListN.{getD}
 use Rattle.sequences.specs.Powers.{pow2-mono}
-use Rattle.location.specs.Codes.{code, column, row}
-use Rattle.location.specs.Interleaving.{code-below, column-below, column-of-code, row-of-code, code-of-coordinates}
+use Rattle.interleaving.specs.Codes.{code, column, row}
+use Rattle.interleaving.specs.Interleaving.{code-below, column-below, column-of-code, row-of-code, code-of-coordinates}
 use Rattle.lattice.specs.Directions.{point, xOf, yOf, leftOf, edge, tail, digit}
 use Rattle.grid.specs.Map.{regionAt, around}
 use Rattle.grid.specs.Margins.{Pixel, pixel-at, region-of-code}

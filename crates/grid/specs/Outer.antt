@@ -6,8 +6,8 @@ use Prim.Native.Nat.{ℕ, zero, suc, _^_, _≤_, _<_}
 use native.Mathlib.Decide.{ℕ-discrete, decLt}
 use native.Mathlib.Omega.{arith}
 use lib.ListN.{length, getD}
-use Rattle.location.specs.Codes.{code, column, row}
-use Rattle.location.specs.Interleaving.{code-grows-in-y, column-below, row-below, code-of-coordinates}
+use Rattle.interleaving.specs.Codes.{code, column, row}
+use Rattle.interleaving.specs.Interleaving.{code-grows-in-y, column-below, row-below, code-of-coordinates}
 use Rattle.lattice.specs.Walks.{outline}
 use Rattle.orbits.specs.Pigeon.{Least, the-least}
 use Rattle.orbits.specs.Members.{In}

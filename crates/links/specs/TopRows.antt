@@ -7,8 +7,8 @@ use native.Mathlib.Decide.{ℕ-discrete}
 use native.Mathlib.Omega.{arith}
 use lib.ListN.{length, take, getD}
 use Rattle.sequences.specs.Powers.{pow2-pos}
-use Rattle.location.specs.Codes.{code, column, row}
-use Rattle.location.specs.Interleaving.{code-grows-in-x, column-below, row-below, code-of-coordinates}
+use Rattle.interleaving.specs.Codes.{code, column, row}
+use Rattle.interleaving.specs.Interleaving.{code-grows-in-x, column-below, row-below, code-of-coordinates}
 use Rattle.location.specs.Squares.{square-in-image, block-is-square}
 use Rattle.quadtree.specs.Blocks.{Block, pixels, paint}
 use Rattle.quadtree.specs.Number.{cover}

@@ -1,10 +1,4 @@
--- Location codes and levels.
-pub mod Codes
-pub mod Interleaving
-pub mod Splitting
-pub mod Spreading
-pub mod Gathering
-pub mod Parting
+-- Squares, levels and places by location codes.
 pub mod Squares
 pub mod Levels
 pub mod TopLevels

@@ -7,10 +7,10 @@ use native.Mathlib.Omega.{arith}
 use lib.Dec.{ltb}
 use borrow.Author.Tests.{lt-ltb, le-ltb}
 use Rattle.sequences.specs.Powers.{pow2-mono}
-use Rattle.location.specs.Codes.{column, row}
-use Rattle.location.specs.Interleaving.{row-below}
+use Rattle.interleaving.specs.Codes.{column, row}
+use Rattle.interleaving.specs.Interleaving.{row-below}
 use Rattle.location.specs.Levels.{sideOf, side-is-power}
-use Rattle.location.specs.Splitting.{column-wider, row-wider}
+use Rattle.interleaving.specs.Splitting.{column-wider, row-wider}
 
 -- The place of the pixel with the code c in a raster of side 2^n "(row by row, north row first)" (document 01, "The dial as
 -- blocks"), for n up to 16: a code of 32 bits has 16 digits of x and of y. 0 above.

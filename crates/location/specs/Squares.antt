@@ -6,9 +6,9 @@ use native.Mathlib.Nat.{div-add-mod', div-lt-iff-lt-mul, le-div-iff-mul-le, add-
 use native.Mathlib.Omega.{arith}
 use lib.Pow.{pow-add}
 use Rattle.sequences.specs.Powers.{pow2-pos, pow4-pos}
-use Rattle.location.specs.Codes.{code, column, row}
-use Rattle.location.specs.Interleaving.{column-below, row-below, column-of-code, row-of-code, code-of-coordinates}
-use Rattle.location.specs.Splitting.{code-high, column-of-multiple, row-of-multiple}
+use Rattle.interleaving.specs.Codes.{code, column, row}
+use Rattle.interleaving.specs.Interleaving.{column-below, row-below, column-of-code, row-of-code, code-of-coordinates}
+use Rattle.interleaving.specs.Splitting.{code-high, column-of-multiple, row-of-multiple}
 
 -- A number lies in the stretch of length w at q * w exactly where its quotient is q.
 quotient-in-stretch : (w q v : ℕ) → 0 < w → v / w ≡ q → (q * w ≤ v) × (v < q * w + w)

@@ -9,8 +9,8 @@ use lib.Seq.{getD-take, ext-getD}
 use Rattle.sequences.specs.Maps.{getD-map}
 use Rattle.sequences.specs.Over.{over, length-over, over-inside, over-beyond}
 use Rattle.sequences.specs.Powers.{pow4-mono}
-use Rattle.location.specs.Codes.{code}
-use Rattle.location.specs.Interleaving.{code-below}
+use Rattle.interleaving.specs.Codes.{code}
+use Rattle.interleaving.specs.Interleaving.{code-below}
 use Rattle.location.specs.Levels.{sideOf}
 use Rattle.quadtree.specs.Raster.{place, inRows}
 use Rattle.quadtree.specs.Orders.{place-in, code-of-place, in-rows-at, length-in-rows}

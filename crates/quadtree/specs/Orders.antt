@@ -8,8 +8,8 @@ use lib.ListN.{length, getD}
 use lib.Arith.{digits-lt, digits-div, digits-mod}
 use Rattle.sequences.specs.Powers.{pow2-pos, square-of-side}
 use Rattle.sequences.specs.Ranges.{length-tabulate, tabulate-at, tabulate-from}
-use Rattle.location.specs.Codes.{code, row}
-use Rattle.location.specs.Interleaving.{code-below, column-below, row-below, column-of-code, row-of-code, code-of-coordinates}
+use Rattle.interleaving.specs.Codes.{code, row}
+use Rattle.interleaving.specs.Interleaving.{code-below, column-below, row-below, column-of-code, row-of-code, code-of-coordinates}
 use Rattle.location.specs.Places.{placeOf, place-in-image}
 use Rattle.quadtree.specs.Raster.{place, inCodeOrder, inRows}
 

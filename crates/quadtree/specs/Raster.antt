@@ -3,7 +3,7 @@ use mathlib.Core.List.{List}
 use Prim.Native.Nat.{ℕ, _+_, _*_, _/_, _%_, _^_}
 use lib.ListN.{getD}
 use Rattle.sequences.specs.Ranges.{tabulate}
-use Rattle.location.specs.Codes.{code, column, row}
+use Rattle.interleaving.specs.Codes.{code, column, row}
 
 -- The place of the pixel with the code c in a raster "row by row, north row first" (document 01).
 unfoldable pub place : ℕ → ℕ → ℕ

@@ -10,8 +10,8 @@ use lib.Seq.{getD-append-add, ext-getD}
 use lib.Arith.{digits-div, digits-mod}
 use Rattle.sequences.specs.Over.{over, over-inside, over-beyond, length-over}
 use Rattle.sequences.specs.Powers.{pow2-mono}
-use Rattle.location.specs.Codes.{code, column, row}
-use Rattle.location.specs.Interleaving.{code-below}
+use Rattle.interleaving.specs.Codes.{code, column, row}
+use Rattle.interleaving.specs.Interleaving.{code-below}
 use Rattle.location.specs.Levels.{sideOf, side-is-power}
 use Rattle.location.specs.Places.{placeOf}
 use Rattle.location.specs.Squares.{square-in-image, block-is-square}

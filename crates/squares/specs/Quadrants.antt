@@ -5,7 +5,7 @@ use native.Mathlib.Nat.{add-mul, dvd-add, dvd-mul-left, dvd-trans, dvd-of-mod-eq
 use native.Mathlib.Numerals.{add-one}
 use native.Mathlib.Omega.{arith}
 use Rattle.sequences.specs.Powers.{pow4-divides, pow4-pos}
-use Rattle.location.specs.Codes.{row}
+use Rattle.interleaving.specs.Codes.{row}
 use Rattle.location.specs.Squares.{square-in-image, quadrant-column, quadrant-row}
 use Rattle.quadtree.specs.Raster.{place}
 

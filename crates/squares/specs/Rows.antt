@@ -4,7 +4,7 @@ use native.Mathlib.Nat.{add-mul, mul-le-mul-right}
 use native.Mathlib.Omega.{arith}
 use mathlib.Core.Path.{_≡_}
 use Rattle.sequences.specs.Powers.{square-of-side}
-use Rattle.location.specs.Codes.{row}
+use Rattle.interleaving.specs.Codes.{row}
 use Rattle.location.specs.Squares.{square-in-image}
 use Rattle.quadtree.specs.Raster.{place}
 

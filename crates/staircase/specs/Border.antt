@@ -5,7 +5,7 @@ use mathlib.Core.Bool.{Bool, true, false, true≢false, false≢true}
 use mathlib.Core.List.{List, [], _∷_}
 use Prim.Native.Nat.{ℕ, _*_, _^_}
 use lib.ListN.{take}
-use Rattle.location.specs.Codes.{code}
+use Rattle.interleaving.specs.Codes.{code}
 use Rattle.quadtree.specs.Blocks.{Block, blocks, pixels}
 use Rattle.quadtree.specs.Number.{cover, number}
 use Rattle.quadtree.specs.Accepted.{number-zero}

@@ -8,7 +8,7 @@ use native.Mathlib.Decide.{decLt}
 use native.Mathlib.Omega.{arith}
 use lib.ListN.{length, take, getD}
 use Rattle.sequences.specs.Cases.{first-zero}
-use Rattle.location.specs.Codes.{code}
+use Rattle.interleaving.specs.Codes.{code}
 use Rattle.location.specs.Squares.{square-in-image}
 use Rattle.quadtree.specs.Blocks.{Block, blocks, pixels}
 use Rattle.quadtree.specs.Number.{faultOf, cover, number}

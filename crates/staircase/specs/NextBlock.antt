@@ -7,8 +7,8 @@ use native.Mathlib.Omega.{arith}
 use lib.Dec.{ltb}
 use borrow.Author.Tests.{lt-ltb, le-ltb}
 use Rattle.sequences.specs.Powers.{pow2-pos}
-use Rattle.location.specs.Codes.{code, column, row}
-use Rattle.location.specs.Interleaving.{code-grows-in-x, code-grows-in-y, column-below, row-below}
+use Rattle.interleaving.specs.Codes.{code, column, row}
+use Rattle.interleaving.specs.Interleaving.{code-grows-in-x, code-grows-in-y, column-below, row-below}
 use Rattle.location.specs.Squares.{block-is-square, pixel-in-block, square-in-image}
 use Rattle.staircase.specs.Staircase.{done, done-west, done-north, done-east, done-south, done-pixel}
 use Rattle.staircase.specs.Rows.{doneInRow, doneInColumn, row-end, column-end, row-is, column-is}

@@ -8,8 +8,8 @@ use native.Mathlib.Omega.{arith}
 use lib.Dec.{ltb}
 use borrow.Author.Tests.{ltb-true, lt-ltb, le-ltb}
 use Rattle.sequences.specs.Cases.{and-both}
-use Rattle.location.specs.Codes.{code}
-use Rattle.location.specs.Interleaving.{code-grows-in-x, code-grows-in-y}
+use Rattle.interleaving.specs.Codes.{code}
+use Rattle.interleaving.specs.Interleaving.{code-grows-in-x, code-grows-in-y}
 
 -- Whether a cell is done where the pixels with codes below d are. The pixel (x, y) is the cell (x + 1, y + 1), so that the cells
 -- of column 0 and of row 0 are a margin: "What lies north and west of the image counts as done, what lies south and east as

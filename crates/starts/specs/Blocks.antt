@@ -4,10 +4,10 @@ use mathlib.Core.List.{List}
 use Prim.Native.Nat.{ℕ, _%_, _^_, _≤_, _<_}
 use native.Mathlib.Omega.{arith}
 use Rattle.sequences.specs.Powers.{pow2-mono}
-use Rattle.location.specs.Codes.{column, row}
-use Rattle.location.specs.Interleaving.{row-below}
+use Rattle.interleaving.specs.Codes.{column, row}
+use Rattle.interleaving.specs.Interleaving.{row-below}
 use Rattle.location.specs.Levels.{sideOf, side-is-power}
-use Rattle.location.specs.Splitting.{column-wider, row-wider}
+use Rattle.interleaving.specs.Splitting.{column-wider, row-wider}
 use Rattle.location.specs.Squares.{square-in-image}
 use Rattle.links.specs.TopRows.{rowFrom}
 use Rattle.starts.specs.Progress.{State, PixelsNext, StartsListed}

@@ -9,7 +9,7 @@ use lib.ListN.{length, take, drop, getD, set, length-drop}
 use Rattle.sequences.specs.Over.{over, over-push}
 use Rattle.sequences.specs.Powers.{pow4-mono}
 use Rattle.sequences.specs.Tails.{tail-lent, over-tail}
-use Rattle.location.specs.Codes.{code}
+use Rattle.interleaving.specs.Codes.{code}
 use Rattle.lattice.specs.Walks.{corners}
 use Rattle.grid.specs.Cycles.{cycle, isStart}
 use Rattle.grid.specs.Listing.{keep, owners, ends, allCorners, cornerCount}

@@ -5,7 +5,7 @@ use Prim.Native.Nat.{ℕ, zero, suc, _+_, _-_, _^_, _≤_, _<_}
 use native.Mathlib.Numerals.{add-one}
 use native.Mathlib.Omega.{arith}
 use Rattle.sequences.specs.Powers.{pow2-mono}
-use Rattle.location.specs.Codes.{code}
+use Rattle.interleaving.specs.Codes.{code}
 use Rattle.links.specs.TopRows.{rowFrom}
 use Rattle.starts.specs.Progress.{State, PixelsNext, StartsListed, none-listed, next-first, next-after, starts-listed-then}
 use Rattle.starts.specs.Pixels.{PixelNext}

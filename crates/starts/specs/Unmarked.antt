@@ -9,8 +9,8 @@ use lib.Arith.{digits-lt}
 use lib.ListN.{length, getD}
 use Rattle.sequences.specs.Powers.{pow2-mono, pow4-mono, square-of-side}
 use Rattle.location.specs.Levels.{sideOf, side-is-power}
-use Rattle.location.specs.Codes.{code}
-use Rattle.location.specs.Interleaving.{code-below, column-of-code, row-of-code}
+use Rattle.interleaving.specs.Codes.{code}
+use Rattle.interleaving.specs.Interleaving.{code-below, column-of-code, row-of-code}
 use Rattle.quadtree.specs.Raster.{place}
 use Rattle.quadtree.specs.Orders.{place-of-code}
 use Rattle.grid.specs.Map.{regionAt, around}

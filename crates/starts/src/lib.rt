@@ -2,7 +2,7 @@
 use cycles::write_cycle;
 use steps::MARK_BIT;
 ghost use mathlib.Core.List.{_∷_, []};
-ghost use Rattle.location.specs.Codes.{code};
+ghost use Rattle.interleaving.specs.Codes.{code};
 ghost use Rattle.links.specs.TopRows.{rowFrom};
 ghost use Rattle.starts.specs.Unmarked.{PixelOf, Tells};
 ghost use Rattle.starts.specs.Progress.{state, entryState, exitState, StartsListed};

@@ -9,7 +9,7 @@ use native.Mathlib.Numerals.{add-one}
 use lib.ListN.{length, getD}
 use borrow.Author.Tests.{eq-eqb, ne-eqb}
 use Rattle.sequences.specs.Cases.{same-test}
-use Rattle.location.specs.Codes.{column, row}
+use Rattle.interleaving.specs.Codes.{column, row}
 use Rattle.location.specs.Squares.{square-in-image, for-block-for-square}
 use Rattle.quadtree.specs.Quadtree.{alike}
 use Rattle.quadtree.specs.Painting.{alike-each, each-alike}

@@ -1,7 +1,7 @@
 -- x goes to the even places and y to the odd ones. The sum fits, since a spread number is below a third of 4 ^ 16.
 use borrow.Author.Needs.{needs}
 use native.Mathlib.Omega.{arith}
-use Rattle.location.specs.Spreading.{code-from-spreads, spread-below}
+use Rattle.interleaving.specs.Spreading.{code-from-spreads, spread-below}
 use Rattle.location.proofs.code.Statement.{statement}
 use Rattle.location.proofs.code.Tie as tie
 

@@ -3,8 +3,8 @@
 use Prim.Native.Nat.{_/_}
 use borrow.Author.Needs.{needs}
 use native.Mathlib.Omega.{arith}
-use Rattle.location.specs.Interleaving.{column-below}
-use Rattle.location.specs.Splitting.{column-split, column-wider}
+use Rattle.interleaving.specs.Interleaving.{column-below}
+use Rattle.interleaving.specs.Splitting.{column-split, column-wider}
 use Rattle.location.proofs.column.Statement.{statement}
 use Rattle.location.proofs.column.Tie as tie
 

@@ -3,8 +3,8 @@
 use Prim.Native.Nat.{_/_}
 use borrow.Author.Needs.{needs}
 use native.Mathlib.Omega.{arith}
-use Rattle.location.specs.Interleaving.{row-below}
-use Rattle.location.specs.Splitting.{row-split, row-wider}
+use Rattle.interleaving.specs.Interleaving.{row-below}
+use Rattle.interleaving.specs.Splitting.{row-split, row-wider}
 use Rattle.location.proofs.row.Statement.{statement}
 use Rattle.location.proofs.row.Tie as tie
 

@@ -1,9 +1,9 @@
 -- Two digits of the definition, written out.
 use borrow.Author.Needs.{needs}
 use mathlib.Core.Path.{sym}
-use Rattle.location.specs.Spreading.{spread-two}
-use Rattle.location.proofs.spread2.Statement.{statement}
-use Rattle.location.proofs.spread2.Tie as tie
+use Rattle.interleaving.specs.Spreading.{spread-two}
+use Rattle.interleaving.proofs.spread2.Statement.{statement}
+use Rattle.interleaving.proofs.spread2.Tie as tie
 
 mul-result : tie.Need-mul-result
 mul-result c = search needs

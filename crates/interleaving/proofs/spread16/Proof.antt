@@ -2,10 +2,10 @@
 use Prim.Native.Nat.{_/_}
 use borrow.Author.Needs.{needs}
 use native.Mathlib.Omega.{arith}
-use Rattle.location.specs.Interleaving.{code-below}
-use Rattle.location.specs.Spreading.{spread-halves}
-use Rattle.location.proofs.spread16.Statement.{statement}
-use Rattle.location.proofs.spread16.Tie as tie
+use Rattle.interleaving.specs.Interleaving.{code-below}
+use Rattle.interleaving.specs.Spreading.{spread-halves}
+use Rattle.interleaving.proofs.spread16.Statement.{statement}
+use Rattle.interleaving.proofs.spread16.Tie as tie
 
 spread8-requires : tie.Need-spread8-requires
 spread8-requires c κs = search needs

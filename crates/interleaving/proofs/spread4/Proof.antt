@@ -2,10 +2,10 @@
 use Prim.Native.Nat.{_/_}
 use borrow.Author.Needs.{needs}
 use native.Mathlib.Omega.{arith}
-use Rattle.location.specs.Interleaving.{code-below}
-use Rattle.location.specs.Spreading.{spread-halves}
-use Rattle.location.proofs.spread4.Statement.{statement}
-use Rattle.location.proofs.spread4.Tie as tie
+use Rattle.interleaving.specs.Interleaving.{code-below}
+use Rattle.interleaving.specs.Spreading.{spread-halves}
+use Rattle.interleaving.proofs.spread4.Statement.{statement}
+use Rattle.interleaving.proofs.spread4.Tie as tie
 
 spread2-requires : tie.Need-spread2-requires
 spread2-requires c κs = search needs

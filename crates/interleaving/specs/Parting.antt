@@ -3,11 +3,11 @@ use mathlib.Core.Path.{_≡_, refl, sym, ap, ap₂, _∙_}
 use Prim.Native.Nat.{ℕ, zero, suc, _+_, _*_, _/_, _%_, _^_, _<_}
 use native.Mathlib.Omega.{arith}
 use lib.Bits.{bitAnd, and-zero-r}
-use Rattle.location.specs.Codes.{code, column, row}
-use Rattle.location.specs.Interleaving.{column-below}
-use Rattle.location.specs.Splitting.{code-low}
-use Rattle.location.specs.Spreading.{spread-halves, row-is-column-of-half}
-use Rattle.location.specs.Gathering.{mask, groups, low-field}
+use Rattle.interleaving.specs.Codes.{code, column, row}
+use Rattle.interleaving.specs.Interleaving.{column-below}
+use Rattle.interleaving.specs.Splitting.{code-low}
+use Rattle.interleaving.specs.Spreading.{spread-halves, row-is-column-of-half}
+use Rattle.interleaving.specs.Gathering.{mask, groups, low-field}
 
 -- The even places of a code hold the digits of its column.
 even-places : (m c : ℕ) → bitAnd c (mask 1 m) ≡ code m (column m c) 0

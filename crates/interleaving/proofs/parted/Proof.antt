@@ -1,10 +1,10 @@
 -- The product joins the groups of four; it fits, since 17 at place 20 is far below 2 ^ 32.
 use borrow.Author.Needs.{needs}
-use Rattle.location.specs.Codes.{column, row}
-use Rattle.location.specs.Interleaving.{column-below, row-below}
-use Rattle.location.specs.Parting.{groups-of-four-joined}
-use Rattle.location.proofs.parted.Statement.{statement}
-use Rattle.location.proofs.parted.Tie as tie
+use Rattle.interleaving.specs.Codes.{column, row}
+use Rattle.interleaving.specs.Interleaving.{column-below, row-below}
+use Rattle.interleaving.specs.Parting.{groups-of-four-joined}
+use Rattle.interleaving.proofs.parted.Statement.{statement}
+use Rattle.interleaving.proofs.parted.Tie as tie
 
 fours-requires : tie.Need-fours-requires
 fours-requires c κs = search needs

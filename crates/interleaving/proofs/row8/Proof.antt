@@ -1,7 +1,7 @@
 -- y stands where the parted digits say.
 use borrow.Author.Needs.{needs}
-use Rattle.location.proofs.row8.Statement.{statement}
-use Rattle.location.proofs.row8.Tie as tie
+use Rattle.interleaving.proofs.row8.Statement.{statement}
+use Rattle.interleaving.proofs.row8.Tie as tie
 
 parted-requires : tie.Need-parted-requires
 parted-requires c κs = search needs

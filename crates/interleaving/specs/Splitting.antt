@@ -5,8 +5,8 @@ use native.Mathlib.Nat.{zero-add, suc-add, div-one, div-div-eq-div-mul, div-eq-o
 use native.Mathlib.Omega.{arith}
 use lib.Arith.{mod-mul}
 use Rattle.sequences.specs.Powers.{pow2-pos, pow4-pos}
-use Rattle.location.specs.Codes.{code, column, row}
-use Rattle.location.specs.Interleaving.{code-below}
+use Rattle.interleaving.specs.Codes.{code, column, row}
+use Rattle.interleaving.specs.Interleaving.{code-below}
 
 -- One division by 2 ^ (l + 1) in two steps, and one by 4 ^ (l + 1).
 half-then : (l x : ℕ) → x / 2 / 2 ^ l ≡ x / 2 ^ suc l

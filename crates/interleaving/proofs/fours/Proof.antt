@@ -2,11 +2,11 @@
 use Prim.Native.Nat.{_+_, _*_, _/_}
 use native.Mathlib.Omega.{arith}
 use lib.Bits.{and-le-r}
-use Rattle.location.specs.Codes.{column, row}
-use Rattle.location.specs.Gathering.{mask, gather}
-use Rattle.location.specs.Parting.{digits-parted}
-use Rattle.location.proofs.fours.Statement.{statement}
-use Rattle.location.proofs.fours.Tie as tie
+use Rattle.interleaving.specs.Codes.{column, row}
+use Rattle.interleaving.specs.Gathering.{mask, gather}
+use Rattle.interleaving.specs.Parting.{digits-parted}
+use Rattle.interleaving.proofs.fours.Statement.{statement}
+use Rattle.interleaving.proofs.fours.Tie as tie
 
 mul-ones : tie.Need-mul-ones
 mul-ones c = omega (arith, and-le-r (c .args .c / 2) 0x5555)

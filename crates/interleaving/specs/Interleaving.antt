@@ -4,7 +4,7 @@ use mathlib.Core.Logic.{_⊎_, inl, inr}
 use Prim.Native.Nat.{ℕ, zero, suc, _+_, _*_, _/_, _%_, _^_, _≤_, _<_}
 use native.Mathlib.Nat.{eq-or-lt-of-le}
 use native.Mathlib.Omega.{arith}
-use Rattle.location.specs.Codes.{code, column, row}
+use Rattle.interleaving.specs.Codes.{code, column, row}
 
 half-le : (a b : ℕ) → a ≤ b → a / 2 ≤ b / 2
 half-le a b h = omega arith

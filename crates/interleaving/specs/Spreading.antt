@@ -3,8 +3,8 @@ use mathlib.Core.Path.{_≡_, refl, ap, _∙_}
 use Prim.Native.Nat.{ℕ, zero, suc, _+_, _*_, _/_, _%_, _^_, _<_}
 use native.Mathlib.Nat.{zero-div}
 use native.Mathlib.Omega.{arith}
-use Rattle.location.specs.Codes.{code, column, row}
-use Rattle.location.specs.Splitting.{code-split}
+use Rattle.interleaving.specs.Codes.{code, column, row}
+use Rattle.interleaving.specs.Splitting.{code-split}
 
 -- The code of (x, y) is x spread to the even places and y to the odd ones.
 pub code-from-spreads : (k x y : ℕ) → code k x y ≡ code k x 0 + 2 * code k y 0
