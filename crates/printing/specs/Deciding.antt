@@ -12,8 +12,8 @@ use Rattle.pgm.specs.Picture.{answer, stretch, Answered}
 use Rattle.pgm.specs.Callers.{accepted, part-inside, part-is-stretch}
 use Rattle.pgm.specs.declared.Picture.{Picture}
 use Rattle.sequences.specs.Powers.{square-of-side}
-use Rattle.printing.specs.Outlines.{imageText, image-text-fits}
-use Rattle.printing.specs.Picturing.{RasterFits, few-pixels}
+use Rattle.drawing.specs.Outlines.{imageText, image-text-fits}
+use Rattle.drawing.specs.Picturing.{RasterFits, few-pixels}
 use Rattle.printing.specs.Printed.{inputNumber, pictureText, Printing, Refusing}
 use Rattle.printing.specs.Printable.{too-long, by-picture, refusal-range, refusal-printed, short-printed, picture-printed, side-at-most-64}
 

@@ -1,7 +1,4 @@
 -- The text of a picture.
-pub mod Outlines
-pub mod Picturing
-pub mod Tracings
 pub mod Printed
 pub mod Printable
 pub mod Deciding

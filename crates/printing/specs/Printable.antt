@@ -17,7 +17,7 @@ use Rattle.answers.specs.Put.{Put}
 use Rattle.answers.specs.declared.Written.{Written}
 use Rattle.pgm.specs.Callers.{zero-accepted, refused-number, stretch-inside, stretch-length}
 use Rattle.pgm.specs.Picture.{answer, stretch}
-use Rattle.printing.specs.Outlines.{image-text-fits}
+use Rattle.drawing.specs.Outlines.{image-text-fits}
 use Rattle.printing.specs.Printed.{refusedLine, inputNumber, pictureText, textFor, wholeText, needFor, textNeed, printNumber, ifRoom, printed, Printing, Refusing}
 
 -- The line of a number of two digits, byte by byte.

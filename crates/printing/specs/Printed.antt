@@ -11,7 +11,7 @@ use Rattle.quadtree.specs.Raster.{inCodeOrder}
 use Rattle.decimals.specs.Decimal.{decimal}
 use Rattle.answers.specs.declared.Written.{Written}
 use Rattle.pgm.specs.Picture.{answer, stretch}
-use Rattle.printing.specs.Outlines.{imageText}
+use Rattle.drawing.specs.Outlines.{imageText}
 
 -- "A refusal prints "refused ", the number and LF only" (document 01, "Path, chain and picture"): the bytes of the word and the blank,
 -- the digits of the number, and LF.

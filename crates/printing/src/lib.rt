@@ -1,5 +1,4 @@
 // The text that the program prints for a P5 file: the path data of the outlines, one line a region, or the line of a refusal.
-mod picture;
 mod refusal;
 
 use answers::Written;
@@ -28,7 +27,7 @@ pub fn print(bytes: &[u8], text: &mut [u8]) -> Written
     }
     let start = found.start;
     let end = start + found.length;
-    let count = picture::write_picture(n, &bytes[start..end], text);
+    let count = drawing::write_picture(n, &bytes[start..end], text);
     Written {
         number: 0,
         count: count as u32,

@@ -23,7 +23,7 @@ use Rattle.links.specs.OverTwice.{over-twice}
 use Rattle.links.specs.FirstCycles.{all-regions}
 use Rattle.links.specs.Relabelled.{labels-room, relabelled, relabelled-paints, few-regions}
 use Rattle.starts.specs.Progress.{state, noneCounted}
-use Rattle.tracing.specs.Outlining.{Outlinable, Outlined}
+use Rattle.outlining.specs.Outlining.{Outlinable, Outlined}
 use Rattle.tracing.specs.Tracing.{Lent, lent, tooShort, tracingNumber, outlinesOf, cyclesWritten, labelsLeft, zerosLeft, regionsListed, Tracing, Needs, needs-met, refused}
 use Rattle.tracing.specs.declared.Traced.{Traced}
 use Rattle.starts.specs.declared.Counts.{Counts}
@@ -34,14 +34,14 @@ first-two true b c h = h
 first-two false true c h = h
 first-two false false c h = refl
 
-module _ {n : ℕ} {cs ls ks : List ℕ} (b : Lent) {short : Bool} (tested : short ≡ tooShort n (length cs) b) (enough : short ≡ false)
+module _ {n : ℕ} {cs ls ks : List ℕ} (b : Lent) (enough : tooShort n (length cs) b ≡ false)
     {labels₁ work₁ : List ℕ} {numbered : Numbered} (done : Numbering n cs ls ks (b .labelList) (b .workList) labels₁ work₁ numbered) where
   -- Where no list is too short the two numbers are one.
   same-number : numberingNumber n cs ls ks (b .labelList) (b .workList) ≡ tracingNumber n cs ls ks b
   unfolding numberingNumber tracingNumber tooShort
   same-number =
       ap (λ (t : Bool). numberWith t n cs ls ks)
-      (first-two (ltb (length (b .labelList)) (length cs)) (ltb (length (b .workList)) (2 * 4 ^ n)) _ (sym tested ∙ enough) ∙ sym enough ∙ tested)
+      (first-two (ltb (length (b .labelList)) (length cs)) (ltb (length (b .workList)) (2 * 4 ^ n)) _ enough ∙ sym enough)
 
   answered : numbered .number ≡ numberingNumber n cs ls ks (b .labelList) (b .workList)
   answered = ap (λ (r : Numbered). r .number) (done .answer)

@@ -1,4 +1,3 @@
--- The outlines of labelled blocks, and what the tracing promises.
-pub mod Outlining
+-- What the tracing promises.
 pub mod Tracing
 pub mod Accepting

@@ -8,7 +8,7 @@ use native.Mathlib.Omega.{arith}
 use lib.ListN.{length, replicate}
 use lib.Dec.{ltb}
 use borrow.Author.Tests.{lt-ltb, le-ltb}
-use Rattle.sequences.specs.Cases.{when, ifAccepted, first-some, first-none, when-yes, when-no, written-refused, countIfAccepted, count-refused}
+use Rattle.sequences.specs.Cases.{when, ifAccepted, first-some, first-none, first-zero, when-yes, when-no, when-zero, or-right, written-refused, countIfAccepted, count-refused}
 use Rattle.sequences.specs.Over.{over, over-none}
 use Rattle.quadtree.specs.Blocks.{blocks, paint}
 use Rattle.quadtree.specs.Number.{number, numberWith}
@@ -40,6 +40,11 @@ tooShort n count b =
 unfoldable pub tracingNumber : ℕ → List ℕ → List ℕ → List ℕ → Lent → ℕ
 unfolding numberWith tooShort
 tracingNumber n cs ls ks b = numberWith (tooShort n (length cs) b) n cs ls ks
+
+-- That number where n is above 8 or a list is too short, 0 where neither is so: it is known before the regions are numbered.
+unfoldable pub unfitNumber : ℕ → List ℕ → List ℕ → List ℕ → Lent → ℕ
+unfolding when tracingNumber tooShort
+unfitNumber n cs ls ks b = when (ltb 8 n || tooShort n (length cs) b) (tracingNumber n cs ls ks b)
 
 -- All cycles of the image that a block list paints, as they are listed.
 unfoldable pub outlinesOf : ℕ → List ℕ → List ℕ → List ℕ → List Cycle
@@ -231,13 +236,49 @@ module _ (n : ℕ) (cs ls ks : List ℕ) (b : Lent) where
         in-corners = sym (ap (λ (c : List Cycle). over (allCorners c) (b .cornerList)) no-cycles ∙ over-none (b .cornerList));
       }
 
-  -- 1 comes first; 8 comes where the check finds nothing.
-  pub large-refused : 8 < n → Tracing n cs ls ks b b (record { number = 1; regions = 0; cycles = 0; corners = 0 })
-  large-refused h = refused (λ z. omega arith) (list-fault 1 (number-large n cs ls ks h) (λ z. omega arith))
+-- ---- where n is above 8 or a list is too short
 
-module _ {n : ℕ} {cs ls ks : List ℕ} (b : Lent) {k : ℕ} (checked : k ≡ number n cs ls ks) {t : Bool} (tested : t ≡ tooShort n (length cs) b) where
-  pub fault-refused : (k ≡ 0 → ⊥) → Tracing n cs ls ks b b (record { number = k; regions = 0; cycles = 0; corners = 0 })
-  fault-refused p = refused n cs ls ks b p (list-fault n cs ls ks b k checked p)
+module _ (n : ℕ) (cs ls ks : List ℕ) (b : Lent) where
+  unfit : ltb 8 n || tooShort n (length cs) b ≡ true → unfitNumber n cs ls ks b ≡ tracingNumber n cs ls ks b
+  unfolding unfitNumber
+  unfit h = when-yes (ltb 8 n || tooShort n (length cs) b) (tracingNumber n cs ls ks b) h
 
-  pub short-refused : t ≡ true → k ≡ 0 → Tracing n cs ls ks b b (record { number = 8; regions = 0; cycles = 0; corners = 0 })
-  short-refused h z = refused n cs ls ks b (λ y. omega arith) (short n cs ls ks b (sym checked ∙ z) (sym h ∙ tested))
+  -- 1 comes first.
+  pub large : 8 < n → 1 ≡ unfitNumber n cs ls ks b
+  large h =
+      list-fault n cs ls ks b 1 (number-large n cs ls ks h) (λ z. omega arith)
+      ∙ sym (unfit (sym (first-holds (ltb 8 n) (tooShort n (length cs) b) (lt-ltb 8 n h))))
+
+  pub fit : n ≤ 8 → tooShort n (length cs) b ≡ false → 0 ≡ unfitNumber n cs ls ks b
+  unfolding unfitNumber
+  fit h e =
+      sym (when-no (ltb 8 n || tooShort n (length cs) b) (tracingNumber n cs ls ks b) (sym (none-hold (ltb 8 n) (tooShort n (length cs) b) (le-ltb 8 n h)) ∙ e))
+
+  -- Where a list is too short 8 comes if the check finds nothing.
+  module _ (some-short : tooShort n (length cs) b ≡ true) {k : ℕ} (checked : k ≡ number n cs ls ks) where
+    pub fault-first : (k ≡ 0 → ⊥) → k ≡ unfitNumber n cs ls ks b
+    fault-first p = list-fault n cs ls ks b k checked p ∙ sym (unfit (or-right (ltb 8 n) (tooShort n (length cs) b) some-short))
+
+    pub then-eight : k ≡ 0 → 8 ≡ unfitNumber n cs ls ks b
+    then-eight z =
+        short n cs ls ks b (sym checked ∙ z) (sym some-short) ∙ sym (unfit (or-right (ltb 8 n) (tooShort n (length cs) b) some-short))
+
+-- What the tracing goes by.
+module _ (n : ℕ) (cs ls ks : List ℕ) (b : Lent) {k : ℕ} (is : k ≡ unfitNumber n cs ls ks b) where
+  pub unfit-refused : (k ≡ 0 → ⊥) → Tracing n cs ls ks b b (record { number = k; regions = 0; cycles = 0; corners = 0 })
+  unfolding unfitNumber
+  unfit-refused p = refused n cs ls ks b p (pick (ltb 8 n || tooShort n (length cs) b) refl)
+    where
+      pick : (t : Bool) → ltb 8 n || tooShort n (length cs) b ≡ t → k ≡ tracingNumber n cs ls ks b
+      pick true e = is ∙ unfit n cs ls ks b e
+      pick false e = absurd (p (is ∙ when-no (ltb 8 n || tooShort n (length cs) b) (tracingNumber n cs ls ks b) e))
+
+  pub none-too-short : k ≡ 0 → tooShort n (length cs) b ≡ false
+  unfolding tracingNumber numberWith
+  none-too-short z = pick (tooShort n (length cs) b) refl
+    where
+      pick : (t : Bool) → tooShort n (length cs) b ≡ t → tooShort n (length cs) b ≡ false
+      pick true e =
+          let zero-number : tracingNumber n cs ls ks b ≡ 0 = sym (unfit n cs ls ks b (or-right (ltb 8 n) (tooShort n (length cs) b) e)) ∙ sym is ∙ z in
+          when-zero (tooShort n (length cs) b) 8 (omega arith) (first-zero (number n cs ls ks) (when (tooShort n (length cs) b) 8) zero-number .1)
+      pick false e = e

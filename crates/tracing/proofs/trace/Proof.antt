@@ -1,35 +1,35 @@
 -- `trace` meets its contract: a refusal leaves all lists; else the numbering leaves the labels and a blank work list, and the listing adds
--- the cycles. The check runs once: in the numbering, or by itself where a list is too short.
+-- the cycles. The check runs once: in the numbering, or where a list is too short.
+use mathlib.Core.Path.{_≡_}
+use mathlib.Core.Bool.{false}
 use Prim.Native.Nat.{_≤_}
 use native.Mathlib.Omega.{arith}
+use lib.ListN.{length}
 use Rattle.tracing.specs.Accepting.{numbering-refused, outlinable, counts-small, traced}
-use Rattle.tracing.specs.Tracing.{Lent, lent, large-refused, fault-refused, short-refused}
+use Rattle.tracing.specs.Tracing.{Lent, lent, tooShort, unfit-refused, none-too-short}
 use borrow.Author.Needs.{needs}
 use Rattle.tracing.proofs.trace.Statement.{statement}
 use Rattle.tracing.proofs.trace.Tie as tie
 
 -- ---- the places
 
-abbrev entry : tie.After-slice-known5 → tie.Start
-entry c = c .before .before .before .before .before .before .before .before
+abbrev entry : tie.After-unfit → tie.Start
+entry c = c .before .before .before .before .before .before .before .before .before .before .before .before .before .before
 
 abbrev lists : tie.Start → Lent
 lists s = lent (s .args .labels .now) (s .args .work .now) (s .args .owners .now) (s .args .ends .now) (s .args .corners .now)
 
-abbrev before-short : tie.After-short → tie.Else1
-before-short c = c .before .before .before .before .before .before
-
-abbrev long-enough : tie.After-number → tie.Else2
-long-enough c = c .before .before .before
+abbrev fitting : tie.After-number → tie.Else1
+fitting c = c .before .before .before
 
 -- The lent lists as they were at entry.
-abbrev lent-at : tie.After-short → Lent
-lent-at c = lists (entry (before-short c .before))
+abbrev lent-at : tie.Else1 → Lent
+lent-at c = lists (entry (c .before))
 
 abbrev numbered : tie.After-struct-known → tie.After-number
 numbered c = c .before .before .before .before .before
 
-abbrev accepted : tie.After-outline-arg5 → tie.Else4
+abbrev accepted : tie.After-outline-arg5 → tie.Else2
 accepted c = c .before .before .before .before .before
 
 abbrev outlined : tie.After-struct-known2 → tie.After-outline
@@ -37,23 +37,16 @@ outlined c = c .before .before .before .before .before .before .before .before .
 
 -- ---- the needs
 
+long-enough : (c : tie.Else1) → tooShort (entry (c .before) .args .n) (length (entry (c .before) .args .codes .now)) (lent-at c) ≡ false
+long-enough c =
+    let s = entry (c .before) in
+    none-too-short (s .args .n) (s .args .codes .now) (s .args .levels .now) (s .args .colours .now) (lists s) (c .before .unfit .ensures) (c .if1 .left)
+
+unfit-requires : tie.Need-unfit-requires
+unfit-requires c κs = search needs
+
 refused-requires : tie.Need-refused-requires
 refused-requires c κs = search needs
-
-returns : tie.Need-returns
-returns c =
-    let s = entry (c .before .before) in
-    rw (c .refused .ensures)
-    (large-refused (s .args .n) (s .args .codes .now) (s .args .levels .now) (s .args .colours .now) (lists s) (c .before .if1 .taken))
-
-short-requires : tie.Need-short-requires
-short-requires c κs = search needs
-
-check-requires : tie.Need-check-requires
-check-requires c κs = search needs
-
-refused-requires-2 : tie.Need-refused-requires-2
-refused-requires-2 c κs = search needs
 
 same-length : tie.Need-same-length
 same-length c = search needs
@@ -70,13 +63,18 @@ same-length-4 c = search needs
 same-length-5 : tie.Need-same-length-5
 same-length-5 c = search needs
 
-returns-2 : tie.Need-returns-2
-returns-2 c =
-    let k = c .before .before in
-    rw (c .refused2 .ensures) (fault-refused (lent-at (k .before .before)) (k .check .ensures) (k .before .before .short .ensures) (c .before .if3 .taken))
+returns : tie.Need-returns
+returns c =
+    let u = c .before .before in
+    let s = entry u in
+    rw (c .refused .ensures)
+    (unfit-refused (s .args .n) (s .args .codes .now) (s .args .levels .now) (s .args .colours .now) (lists s) (u .unfit .ensures) (c .before .if1 .taken))
 
-refused-requires-3 : tie.Need-refused-requires-3
-refused-requires-3 c κs = search needs
+number-requires : tie.Need-number-requires
+number-requires c κs = search needs
+
+refused-requires-2 : tie.Need-refused-requires-2
+refused-requires-2 c κs = search needs
 
 same-length-6 : tie.Need-same-length-6
 same-length-6 c = search needs
@@ -93,16 +91,31 @@ same-length-9 c = search needs
 same-length-10 : tie.Need-same-length-10
 same-length-10 c = search needs
 
-returns-3 : tie.Need-returns-3
-returns-3 c =
-    let k = c .before .before in
-    rw (c .refused3 .ensures) (short-refused (lent-at (k .before .before)) (k .check .ensures) (k .before .before .short .ensures) (k .before .if2 .taken) (c .before .if3 .left))
+returns-2 : tie.Need-returns-2
+returns-2 c =
+    let d = numbered (c .before .before) in
+    let l = fitting d in
+    rw (c .refused2 .ensures) (numbering-refused (lent-at l) (long-enough l) (d .number .ensures) (c .before .if2 .taken))
 
-number-requires : tie.Need-number-requires
-number-requires c κs = search needs
+outline-requires : tie.Need-outline-requires
+outline-requires c κs =
+    let d = numbered (accepted c .before) in
+    let l = fitting d in
+    outlinable (lent-at l) (long-enough l) (d .number .ensures) (accepted c .if2 .left)
 
-refused-requires-4 : tie.Need-refused-requires-4
-refused-requires-4 c κs = search needs
+counts-low : (c : tie.After-struct-known2) → (outlined c .outline .result .cycles ≤ 65536) × (outlined c .outline .result .corners ≤ 262144)
+counts-low c =
+    let o = outlined c in
+    let a = accepted (o .before) in
+    let d = numbered (a .before) in
+    let l = fitting d in
+    counts-small (lent-at l) (long-enough l) (d .number .ensures) (a .if2 .left) (o .outline .ensures)
+
+cast-t38 : tie.Need-cast-t38
+cast-t38 c = omega (arith, counts-low c)
+
+cast-t39 : tie.Need-cast-t39
+cast-t39 c = omega (arith, counts-low (c .before))
 
 same-length-11 : tie.Need-same-length-11
 same-length-11 c = search needs
@@ -119,91 +132,40 @@ same-length-14 c = search needs
 same-length-15 : tie.Need-same-length-15
 same-length-15 c = search needs
 
-returns-4 : tie.Need-returns-4
-returns-4 c =
-    let d = numbered (c .before .before) in
-    let l = long-enough d in
-    rw (c .refused4 .ensures) (numbering-refused (lent-at (l .before)) (l .before .short .ensures) (l .if2 .left) (d .number .ensures) (c .before .if4 .taken))
-
-outline-requires : tie.Need-outline-requires
-outline-requires c κs =
-    let d = numbered (accepted c .before) in
-    let l = long-enough d in
-    outlinable (lent-at (l .before)) (l .before .short .ensures) (l .if2 .left) (d .number .ensures) (accepted c .if4 .left)
-
-counts-low : (c : tie.After-struct-known2) → (outlined c .outline .result .cycles ≤ 65536) × (outlined c .outline .result .corners ≤ 262144)
-counts-low c =
-    let o = outlined c in
-    let a = accepted (o .before) in
-    let d = numbered (a .before) in
-    let l = long-enough d in
-    counts-small (lent-at (l .before)) (l .before .short .ensures) (l .if2 .left) (d .number .ensures) (a .if4 .left) (o .outline .ensures)
-
-cast-t41 : tie.Need-cast-t41
-cast-t41 c = omega (arith, counts-low c)
-
-cast-t42 : tie.Need-cast-t42
-cast-t42 c = omega (arith, counts-low (c .before))
-
-same-length-16 : tie.Need-same-length-16
-same-length-16 c = search needs
-
-same-length-17 : tie.Need-same-length-17
-same-length-17 c = search needs
-
-same-length-18 : tie.Need-same-length-18
-same-length-18 c = search needs
-
-same-length-19 : tie.Need-same-length-19
-same-length-19 c = search needs
-
-same-length-20 : tie.Need-same-length-20
-same-length-20 c = search needs
-
-returns-5 : tie.Need-returns-5
-returns-5 c =
+returns-3 : tie.Need-returns-3
+returns-3 c =
     let o = outlined (c .before) in
     let a = accepted (o .before) in
     let d = numbered (a .before) in
-    let l = long-enough d in
-    traced (lent-at (l .before)) (l .before .short .ensures) (l .if2 .left) (d .number .ensures) (a .if4 .left) (o .outline .ensures)
+    let l = fitting d in
+    traced (lent-at l) (long-enough l) (d .number .ensures) (a .if2 .left) (o .outline .ensures)
 
 pub trace-spec : {M : Type 1} → statement M
 trace-spec =
     tie.close
     (tie.spec
+    unfit-requires
     refused-requires
-    returns
-    short-requires
-    check-requires
-    refused-requires-2
     same-length
     same-length-2
     same-length-3
     same-length-4
     same-length-5
-    returns-2
-    refused-requires-3
+    returns
+    number-requires
+    refused-requires-2
     same-length-6
     same-length-7
     same-length-8
     same-length-9
     same-length-10
-    returns-3
-    number-requires
-    refused-requires-4
+    returns-2
+    outline-requires
+    cast-t38
+    cast-t39
     same-length-11
     same-length-12
     same-length-13
     same-length-14
     same-length-15
-    returns-4
-    outline-requires
-    cast-t41
-    cast-t42
-    same-length-16
-    same-length-17
-    same-length-18
-    same-length-19
-    same-length-20
-    returns-5)
+    returns-3)

@@ -1,10 +1,10 @@
 -- A side of at most 64 fits the local lists, so the tracing leaves the outlines in them, and their text cycle by cycle is the lines.
 use native.Mathlib.Omega.{arith}
-use Rattle.printing.specs.Picturing.{drawable, drawn}
-use Rattle.printing.specs.Tracings.{outlined}
+use Rattle.drawing.specs.Picturing.{drawable, drawn}
+use Rattle.drawing.specs.Tracings.{outlined}
 use borrow.Author.Needs.{needs}
-use Rattle.printing.proofs.picture.write_outlines.Statement.{statement}
-use Rattle.printing.proofs.picture.write_outlines.Tie as tie
+use Rattle.drawing.proofs.write_outlines.Statement.{statement}
+use Rattle.drawing.proofs.write_outlines.Tie as tie
 
 returns : tie.Need-returns
 returns c =

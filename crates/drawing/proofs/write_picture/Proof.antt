@@ -1,10 +1,10 @@
 -- The raster fits the local lists, so its quadtree is merged into them; that list is accepted and paints the raster's image.
 use native.Mathlib.Omega.{arith}
 use lib.ListN.{length-take}
-use Rattle.printing.specs.Picturing.{merged-traceable, merged-drawn, count-in-codes, count-in-levels, count-in-colours}
+use Rattle.drawing.specs.Picturing.{merged-traceable, merged-drawn, count-in-codes, count-in-levels, count-in-colours}
 use borrow.Author.Needs.{needs}
-use Rattle.printing.proofs.picture.write_picture.Statement.{statement}
-use Rattle.printing.proofs.picture.write_picture.Tie as tie
+use Rattle.drawing.proofs.write_picture.Statement.{statement}
+use Rattle.drawing.proofs.write_picture.Tie as tie
 
 slice-aggregate-from-raster : tie.Need-slice-aggregate-from-raster
 slice-aggregate-from-raster c = search needs

@@ -1,10 +1,10 @@
 -- `outline` meets its contract: the links stand behind the map, the listing leaves them as they were, and both are cleared; nothing else
 -- of the work list was written.
-use Rattle.tracing.specs.Outlining.{linkable, fillable, map-and-links, used-low, clear-room, outlined}
+use Rattle.outlining.specs.Outlining.{linkable, fillable, map-and-links, used-low, clear-room, outlined}
 use native.Mathlib.Omega.{arith}
 use borrow.Author.Needs.{needs}
-use Rattle.tracing.proofs.outline.Statement.{statement}
-use Rattle.tracing.proofs.outline.Tie as tie
+use Rattle.outlining.proofs.outline.Statement.{statement}
+use Rattle.outlining.proofs.outline.Tie as tie
 
 -- ---- the places: the size is worked out, the blocks are linked, the map is filled, the cycles are listed, the work list is cleared
 

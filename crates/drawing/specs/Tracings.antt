@@ -11,7 +11,7 @@ use Rattle.grid.specs.Listing.{Cycle, owners, ends, allCorners, cycleCount}
 use Rattle.links.specs.Image.{imageOutlines}
 use Rattle.tracing.specs.Tracing.{Lent, tracingNumber, outlinesOf, cyclesWritten, Tracing, none-short}
 use Rattle.tracing.specs.declared.Traced.{Traced}
-use Rattle.printing.specs.Picturing.{Traceable, few-pixels, OutlinesHeld}
+use Rattle.drawing.specs.Picturing.{Traceable, few-pixels, OutlinesHeld}
 
 module _ {n : ℕ} {cs ls ks text : List ℕ} {before after : Lent} {r : Traced} (a : Traceable n cs ls ks text) (t : Tracing n cs ls ks before after r)
     (for-labels : 4096 ≤ length (before .labelList)) (for-work : 8192 ≤ length (before .workList)) (for-owners : 4096 ≤ length (before .ownerList))

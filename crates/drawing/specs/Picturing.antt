@@ -21,7 +21,7 @@ use Rattle.grid.specs.Stretches.{length-owners}
 use Rattle.answers.specs.Put.{Put}
 use Rattle.lines.specs.Lines.{byCycles}
 use Rattle.links.specs.Image.{imageOutlines}
-use Rattle.printing.specs.Outlines.{imageText, lines-by-cycles, outline-forms, outlines-need}
+use Rattle.drawing.specs.Outlines.{imageText, lines-by-cycles, outline-forms, outlines-need}
 use Rattle.held.specs.Held.{cyclesHeld, cycles-read-back}
 use Rattle.lines.specs.Writing.{Drawable}
 

@@ -2,8 +2,8 @@
 ghost use Rattle.quadtree.specs.Blocks.{blocks, paint};
 ghost use Rattle.quadtree.specs.Raster.{inCodeOrder};
 ghost use Rattle.answers.specs.Put.{Put};
-ghost use Rattle.printing.specs.Outlines.{imageText};
-ghost use Rattle.printing.specs.Picturing.{RasterFits, Traceable};
+ghost use Rattle.drawing.specs.Outlines.{imageText};
+ghost use Rattle.drawing.specs.Picturing.{RasterFits, Traceable};
 
 // The lines of an accepted block list.
 fn write_outlines(n: u32, codes: &[u32], levels: &[u8], colours: &[u8], text: &mut [u8]) -> usize
@@ -31,7 +31,7 @@ fn write_outlines(n: u32, codes: &[u32], levels: &[u8], colours: &[u8], text: &m
 }
 
 // The lines of a raster: it is merged to blocks, and their outlines are written.
-pub(crate) fn write_picture(n: u32, raster: &[u8], text: &mut [u8]) -> usize
+pub fn write_picture(n: u32, raster: &[u8], text: &mut [u8]) -> usize
     requires { ⌜ RasterFits n (now raster) (now text) ⌝ }
     ensures { λ r. ⌜ Put (imageText n (inCodeOrder n (now (raster .entry)))) (now (text .entry)) (now (text .exit)) r ⌝ }
 {

@@ -1,0 +1,4 @@
+-- The lines of a raster.
+pub mod Outlines
+pub mod Picturing
+pub mod Tracings

@@ -1,0 +1,2 @@
+-- The outlines of labelled blocks.
+pub mod Outlining
