@@ -53,7 +53,8 @@ fn short(
     corners.len() < 4 * whole
 }
 
-// The number to refuse with where n is above 8 or one of the lists is too short, 0 where neither is so.
+// The number to refuse with where n is above 8 or one of the lists is too short, 0 where neither is so: 8 comes last, so the check is
+// asked for a cause before it.
 fn unfit(
     n: u32,
     codes: &[u32],
@@ -82,8 +83,7 @@ fn unfit(
 }
 
 // The outlines of all regions of a block list: labels, owners, ends and corners, and the counts of regions, cycles and corners. The
-// numbering checks the block list; where a lent list is too short nothing is numbered, and the check tells whether a cause before 8
-// applies.
+// block list is checked once: by the numbering, or before it where a list is too short.
 pub fn trace(
     n: u32,
     codes: &[u32],
