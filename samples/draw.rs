@@ -8,6 +8,8 @@ use std::{env, fs, io};
 /// The time that the clocks show: eight past ten, and 32 seconds.
 const TIME: u32 = (10 * 60 + 8) * 60 + 32;
 
+const DIAL_3: [u8; 16] = [1, 1, 1, 1, 1, 2, 2, 1, 1, 2, 2, 1, 1, 1, 1, 1];
+
 /// A binary PGM with a maxval of 255.
 fn pgm(width: usize, height: usize, raster: &[u8]) -> Vec<u8> {
     [format!("P5\n{width} {height}\n255\n").as_bytes(), raster].concat()
@@ -21,9 +23,13 @@ fn samples() -> Vec<(&'static str, Vec<u8>)> {
         // dials 1 to 5 of document 01
         ("dial-1.pgm", pgm(1, 1, &[1])),
         ("dial-2.pgm", pgm(4, 4, &[1, 1, 1, 1, 1, 2, 1, 1, 1, 1, 3, 3, 1, 1, 3, 3])),
-        ("dial-3.pgm", pgm(4, 4, &[1, 1, 1, 1, 1, 2, 2, 1, 1, 2, 2, 1, 1, 1, 1, 1])),
+        ("dial-3.pgm", pgm(4, 4, &DIAL_3)),
         ("dial-4.pgm", pgm(2, 2, &[1, 2, 2, 1])),
         ("dial-5.pgm", pgm(2, 2, &[1, 1, 2, 2])),
+        // dial 3 as GIMP writes it, with a remark
+        ("remark.pgm", [b"P5\n# Created by GIMP version 2.10.34 PNM plug-in\n4 4\n255\n", &DIAL_3[..]].concat()),
+        // a number sign straight after maxval
+        ("refused-remark.pgm", [b"P5\n4 4\n255# levels\n", &DIAL_3[..]].concat()),
         // one picture for each number with which a picture is refused, from 10 to 14; clock-256.pgm is refused with 15
         ("refused-10.pgm", b"P2\n2 2\n255\n1 2\n2 1\n".to_vec()),
         ("refused-11.pgm", pgm(3, 2, &[1, 1, 2, 2, 2, 1])),

@@ -252,7 +252,7 @@ fn read_chain(random: &mut Random, wrong: u32) -> (u32, Option<String>) {
 fn read_pgm(random: &mut Random, wrong: u32) -> (u32, Option<String>) {
     let n = [0, 1, 1, 2, 2, 3, 4][random.below(7)];
     let maxval = [1, 9, 100, 254, 255, 255, 255][random.below(7)];
-    let space = [" ", "\n", "\t", "\r\n", "  "][random.below(5)];
+    let space = [" ", "\n", "\t", "\r\n", "  ", "# 8\n", "#\r"][random.below(7)];
     let side = 1 << n;
     let raster: Vec<u8> = (0..side * side).map(|_| random.below(maxval + 1) as u8).collect();
     let mut bytes = format!("P5{space}{side}{space}{side}{space}{maxval}\n").into_bytes();

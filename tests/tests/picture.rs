@@ -161,7 +161,7 @@ fn pictures_read_back() {
     let mut cases = Cases::of("pictures read back");
     let mut random = Random::of("pictures read back");
     let mut pictures: Vec<Vec<u8>> = accepted().map(|(_, bytes)| bytes).collect();
-    assert_eq!(pictures.len(), 7, "the clocks and dials 1 to 5");
+    assert_eq!(pictures.len(), 8, "the clocks, dials 1 to 5 and the one with a remark");
     for n in 0..=6 {
         pictures.extend(rasters::of_every_kind(&mut random, n).iter().map(|raster| pgm(n, raster)));
     }

@@ -2,6 +2,8 @@
 
 use std::collections::BTreeSet;
 use std::hint::black_box;
+use std::io::Write;
+use std::process::{Command, Stdio};
 use tests::cases::Cases;
 use tests::compare::Shown;
 use tests::model::pgm::{read, Read};
@@ -29,7 +31,7 @@ fn accepted_pictures() {
     for n in 0..=8 {
         let side = 1usize << n;
         for maxval in [1, 2, 9, 10, 99, 100, 254, 255] {
-            for space in [" ", "\n", "\t", "\r", " \t\r\n\n "] {
+            for space in [" ", "\n", "\t", "\r", " \t\r\n\n ", "#\n", "\n# a remark\n", "#\r#9 9\r\n"] {
                 let raster: Vec<u8> = (0..side * side).map(|_| random.below(maxval + 1) as u8).collect();
                 let bytes = picture(&format!("P5{space}{side}{space}{side}{space}{maxval}\n"), &raster);
                 assert_eq!(judged(&bytes), 0);
@@ -55,7 +57,25 @@ fn causes() {
         (b"P5\x0b1 1 255 x", 10),
         (b"P5\x0c1 1 255 x", 10),
         (b"P5\x001 1 255 x", 10),
-        (b"P5 #\n1 1 255 x", 10),
+        (b"P5 #", 10),
+        (b"P5 #1 1 255 x", 10),
+        (b"P5 1 1 #255 x", 10),
+        (b"P5 1 1 255#", 10),
+        (b"P5 1 1 255#\nx", 10),
+        (b"P5 1 1 25#\n5 x", 10),
+        (b"P5 1 1 2\n#\n55 x", 13),
+        (b"P#\n5 1 1 255 x", 10),
+        (b"#\nP5 1 1 255 x", 10),
+        (b"P5#\n\x0b1 1 255 x", 10),
+        (b"P5 #\n1 1 255 x", 0),
+        (b"P5#\n1 1 255 x", 0),
+        (b"P5#\r1#\r1#\r255 x", 0),
+        (b"P5#\r\n1#\r\n1#\r\n255 x", 0),
+        (b"P5#\x00\x0b\xff#P5 4 4\n1 1 255 x", 0),
+        (b"P5 1 1 255 #", 0),
+        (b"P5 1 1 255 #\n", 13),
+        (b"P5 1#x\n6 255 x", 11),
+        (b"P5 1 1 9 #", 14),
         (b"P5 1 1 255", 10),
         (b"P5 1 1 255x", 10),
         (b"P5 1 1 255#x", 10),
@@ -131,6 +151,106 @@ fn damaged_pictures() {
         }
     }
     assert_eq!(seen, BTreeSet::from([0, 10, 11, 12, 13, 14]));
+    cases.end();
+}
+
+/// A remark at every place of a picture, ended by LF, by CR, by both and not at all.
+#[test]
+fn remarks_at_every_place() {
+    let mut cases = Cases::of("remarks at every place");
+    let pictures: [&[u8]; 4] =
+        [b"P5 1 1 255 x", b"P5 16 16 9 :", b"P5\n4  4\r\n255\n0123456789abcdef", b"P5#a\n2#b\r\n2 #c#\n 00077\t!!!!"];
+    let mut seen = BTreeSet::new();
+    for bytes in pictures {
+        for place in 0..=bytes.len() {
+            for remark in ["#\n", "#\r", "#\r\n", "#", "# a remark\n", "#1 1 255\r", "##\n#\r", " #\n", "#\n "] {
+                seen.insert(judged(&[&bytes[..place], remark.as_bytes(), &bytes[place..]].concat()));
+                cases.ran();
+            }
+        }
+    }
+    assert_eq!(seen, BTreeSet::from([0, 10, 11, 12, 13]));
+    cases.end();
+}
+
+/// A remark of every length up to what the program takes, by turns at each of the three places.
+#[test]
+fn remarks_of_every_length() {
+    let mut cases = Cases::of("remarks of every length");
+    for length in 0..=8_192 {
+        let remark = format!("#{}\r", "# 4\t".repeat(length / 4 + 1).split_at(length).0);
+        let [a, b, c] = [0, 1, 2].map(|place| if place == length % 3 { &remark[..] } else { " " });
+        assert_eq!(judged(format!("P5{a}1{b}1{c}200\n#").as_bytes()), 0);
+        assert_eq!(judged(format!("P5{a}1{b}1{c}30\n#").as_bytes()), 14);
+        cases.ran();
+    }
+    cases.end();
+}
+
+/// Headers put together at random from pieces of white space, remarks, numbers and what belongs nowhere.
+#[test]
+fn headers_of_pieces() {
+    let mut cases = Cases::of("headers of pieces");
+    let mut random = Random::of("headers of pieces");
+    let pieces = [
+        " ", "\t", "\n", "\r", "\r\n", "#\n", "#\r", "# 1 1\n", "#x\r\n", "##\n", "#", "\n#", "1", "2", "02", "255",
+        "000001", "P5", "x",
+    ];
+    let mut seen = BTreeSet::new();
+    for _ in 0..60_000 {
+        let mut bytes = b"P5".to_vec();
+        for number in ["2", "02", "77"] {
+            for _ in 0..random.below(4) {
+                // white space mostly, at times any piece
+                let among = if random.below(12) == 0 { pieces.len() } else { 10 };
+                bytes.extend_from_slice(pieces[random.below(among)].as_bytes());
+            }
+            bytes.extend_from_slice(number.as_bytes());
+        }
+        bytes.extend_from_slice([" ", "\n", "\r", "\t", "#\n", " #", ""][random.below(7)].as_bytes());
+        bytes.extend_from_slice(&b"#M\n\x4e\x00"[..random.below(6)]);
+        seen.insert(judged(&bytes));
+        cases.ran();
+    }
+    assert_eq!(seen, BTreeSet::from([0, 10, 11, 12, 13, 14]));
+    cases.end();
+}
+
+/// What Netpbm's own programs read from a file on their standard input, where they are installed (Debian's package netpbm).
+fn netpbm(program: &str, bytes: &[u8]) -> Option<String> {
+    let mut child =
+        Command::new(program).stdin(Stdio::piped()).stdout(Stdio::piped()).stderr(Stdio::null()).spawn().ok()?;
+    let mut stdin = child.stdin.take().expect("standard input");
+    stdin.write_all(bytes).expect("a small file is taken whole");
+    drop(stdin);
+    let output = child.wait_with_output().expect("the program ends");
+    Some(String::from_utf8(output.stdout).expect("text"))
+}
+
+/// Netpbm reads the same width, height, maxval and samples out of files with remarks.
+#[test]
+fn netpbm_agrees() {
+    let mut cases = Cases::of("Netpbm agrees");
+    let mut random = Random::of("Netpbm agrees");
+    let mut compared = 0;
+    for _ in 0..100 {
+        let mut white = || {
+            let pieces = ["\n", " ", "\t", "\r", "# a remark\n", "#\n", "#1 1\r", "#x\r\n"];
+            (0..=random.below(3)).map(|_| pieces[random.below(pieces.len())]).collect::<String>()
+        };
+        let bytes = format!("P5{}4{}4{}99\n0123456789#:;<=>", white(), white(), white()).into_bytes();
+        assert_eq!(judged(&bytes), 0, "{}", Shown(&bytes));
+        cases.ran();
+        let Some(plain) = netpbm("pnmtoplainpnm", &bytes) else { continue };
+        let words: Vec<&str> = plain.split_whitespace().collect();
+        let samples: Vec<String> = b"0123456789#:;<=>".iter().map(u8::to_string).collect();
+        assert_eq!(words[..4], ["P2", "4", "4", "99"], "{}", Shown(&bytes));
+        assert_eq!(words[4..], samples, "{}", Shown(&bytes));
+        let told = netpbm("pnmfile", &bytes).expect("pnmfile stands beside pnmtoplainpnm");
+        assert!(told.contains("PGM raw, 4 by 4  maxval 99"), "{}: {told}", Shown(&bytes));
+        compared += 1;
+    }
+    println!("{compared} files with remarks read by Netpbm too");
     cases.end();
 }
 

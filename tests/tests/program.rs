@@ -82,8 +82,10 @@ fn files() {
     let mut cases = Cases::of("files of outlines");
     for (name, out, words) in [
         ("samples/dial-2.pgm", "M0 0H4V2H2V1H1V2H2V4H0Z\nM1 1H2V2H1Z\nM2 2H4V4H2Z\n", ""),
+        ("samples/remark.pgm", "M0 0H4V4H0ZM1 3H3V1H1Z\nM1 1H3V3H1Z\n", ""),
         ("samples/refused-10.pgm", "refused 10\n", "it begins with P2, another kind of Netpbm picture"),
         ("crates.txt", "refused 10\n", "it does not begin with P5"),
+        ("samples/refused-remark.pgm", "refused 10\n", "it begins with P5, but what follows is no such header"),
         ("samples/refused-11.pgm", "refused 11\n", "the picture is 3 by 2: "),
         ("samples/refused-12.pgm", "refused 12\n", "maxval is 256: "),
         ("samples/refused-13.pgm", "refused 13\n", "the raster is not exactly 2 times 2 bytes: "),
@@ -96,6 +98,17 @@ fn files() {
         let said = ran.err.lines().last().unwrap_or("");
         let refusal = said.starts_with(&format!("outlines: {name} is refused: ")) && said.contains(words);
         assert!(refusal != words.is_empty(), "{name}: {said}");
+        cases.ran();
+    }
+    // The words of a refusal past the header are those of the numbers, not of what remarks say.
+    let name = concat!(env!("CARGO_TARGET_TMPDIR"), "/remarks.pgm");
+    for (header, words) in [
+        ("P5#9 9\n3#x\r2# 7 7\r\n255\n", "the picture is 3 by 2: "),
+        ("P5 # 1\n#2\r2\t#3\n2 # 4\n00256 #", "maxval is 00256: "),
+    ] {
+        std::fs::write(name, picture(header, b"#\n12345")).expect("a file is written");
+        let ran = run(repository("bin/outlines"), &[name]);
+        assert!(ran.err.ends_with('\n') && ran.err.contains(words), "{header:?}: {}", ran.err);
         cases.ran();
     }
     // A text that can't be written whole: the program, which can't end with a status, and the command each say so in one line.
@@ -127,7 +140,8 @@ fn refusals_printed() {
         (b"".to_vec(), 10),
         (b"P5".to_vec(), 10),
         (b"P6\n1 1\n255\n\x01\x01\x01".to_vec(), 10),
-        (b"P5\n#\n1 1\n255\n\x01".to_vec(), 10),
+        (b"P5\n#1 1 255 \x01".to_vec(), 10),
+        (b"P5\n1 1\n255#\n\x01".to_vec(), 10),
         (b"P5\n000001 1\n255\n\x01".to_vec(), 10),
         (b"P5\n3 3 ".to_vec(), 10),
         (picture("P5\n3 3\n255\n", &[1; 9]), 11),
@@ -176,14 +190,18 @@ fn largest_pictures_printed() {
     assert_eq!(printed(&picture("P5\n64 64\n1\n", &board)), text);
     cases.ran();
 
-    // Exactly 8,192 bytes, with white space in the header.
-    let mut bytes = b"P5".to_vec();
-    bytes.resize(8192 - 4096 - 10, b'\n');
-    bytes.extend_from_slice(b"64 64 255\n");
-    bytes.extend_from_slice(&[7; 4096]);
-    assert_eq!(bytes.len(), 8192);
-    assert_eq!(printed(&bytes), "M0 0H64V64H0Z\n");
-    cases.ran();
+    // Exactly 8,192 bytes, with white space in the header, plain or a remark; and one byte more.
+    for (fill, text) in [(b'\n', "\n64 64 255\n"), (b'#', "\r64 64 255\n")] {
+        for (length, printed_text) in [(8192, "M0 0H64V64H0Z\n"), (8193, "refused 15\n")] {
+            let mut bytes = b"P5".to_vec();
+            bytes.resize(length - 4096 - text.len(), fill);
+            bytes.extend_from_slice(text.as_bytes());
+            bytes.extend_from_slice(&[7; 4096]);
+            assert_eq!(bytes.len(), length);
+            assert_eq!(printed(&bytes), printed_text);
+            cases.ran();
+        }
+    }
     cases.end();
 }
 

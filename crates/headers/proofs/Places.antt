@@ -1,14 +1,16 @@
 -- What the parsers find at a place of a list, told by the byte that stands there.
 use mathlib.Core.Path.{_≡_, refl, ap, _∙_}
-use mathlib.Core.Bool.{Bool, true, false}
+use mathlib.Core.Bool.{Bool, true, false, not, _||_, cond, true≢false}
 use mathlib.Core.List.{List, [], _∷_}
 use Prim.Native.Nat.{ℕ, _+_, _≤_, _<_}
 use native.Mathlib.Numerals.{add-one}
 use lib.ListN.{length, drop, getD, drop-of-length-le}
 use lib.Seq.{drop-cons}
-use Rattle.headers.specs.Parser.{got, bad, byte, byte-takes, byte-refuses}
-use Rattle.headers.specs.Space.{isSpace, trimmed, trimmed-more, trimmed-stop}
+use Rattle.headers.specs.Parser.{got, bad, byte, byte-takes, byte-refuses, ahead, next}
+use Rattle.headers.specs.Space.{isSign, isEnd, isWhite, skip, spaces}
 use Rattle.headers.specs.Number.{isDigit, digits, behind}
+use Rattle.headers.specs.Layout.{first}
+use Rattle.headers.specs.Whites.{skip-white, skip-stop, skip-inside, spaces-on, spaces-off}
 use Rattle.headers.specs.NumberLaws.{digits-more, digits-stop, behind-more, behind-stop}
 
 -- Past the end.
@@ -17,9 +19,17 @@ module _ (xs : List ℕ) (at : ℕ) (h : length xs ≤ at) where
   unfolding byte
   byte-end test = rw (drop-of-length-le xs h) refl
 
-  pub trimmed-end : trimmed (drop at xs) ≡ drop at xs
-  unfolding trimmed
-  trimmed-end = rw (drop-of-length-le xs h) refl
+  pub skip-end : (inside : Bool) → inside ≡ false → skip inside (drop at xs) ≡ got tt (drop at xs)
+  unfolding skip
+  skip-end inside e = rw (e, drop-of-length-le xs h) refl
+
+  pub remark-end : (inside : Bool) → inside ≡ true → skip inside (drop at xs) ≡ bad
+  unfolding skip
+  remark-end inside e = rw (e, drop-of-length-le xs h) refl
+
+  pub spaces-end : spaces (drop at xs) ≡ bad
+  unfolding spaces ahead next
+  spaces-end = rw (drop-of-length-le xs h) refl
 
   pub digits-end : digits (drop at xs) ≡ []
   unfolding digits
@@ -40,11 +50,20 @@ module _ (xs : List ℕ) (at : ℕ) (h : at < length xs) where
   pub byte-no : (test : ℕ → Bool) → test (getD xs at 0) ≡ false → byte test (drop at xs) ≡ bad
   byte-no test e = ap (byte test) here ∙ byte-refuses test (getD xs at 0) (drop (at + 1) xs) e
 
-  pub trimmed-yes : isSpace (getD xs at 0) ≡ true → trimmed (drop at xs) ≡ trimmed (drop (at + 1) xs)
-  trimmed-yes e = ap trimmed here ∙ trimmed-more (getD xs at 0) (drop (at + 1) xs) e
+  pub skip-yes : (inside : Bool) → inside || isWhite (getD xs at 0) ≡ true
+      → skip inside (drop at xs) ≡ skip (cond inside (not (isEnd (getD xs at 0))) (isSign (getD xs at 0))) (drop (at + 1) xs)
+  skip-yes true e = ap (skip true) here ∙ skip-inside (getD xs at 0) (drop (at + 1) xs)
+  skip-yes false e = ap (skip false) here ∙ skip-white (getD xs at 0) (drop (at + 1) xs) e
 
-  pub trimmed-no : isSpace (getD xs at 0) ≡ false → trimmed (drop at xs) ≡ drop at xs
-  trimmed-no e = rw here (trimmed-stop (getD xs at 0) (drop (at + 1) xs) e)
+  pub skip-no : (inside : Bool) → inside || isWhite (getD xs at 0) ≡ false → skip inside (drop at xs) ≡ got tt (drop at xs)
+  skip-no true e = absurd (true≢false e)
+  skip-no false e = rw here (skip-stop (getD xs at 0) (drop (at + 1) xs) e)
+
+  pub spaces-yes : isWhite (getD xs at 0) ≡ true → spaces (drop at xs) ≡ skip false (drop at xs)
+  spaces-yes e = rw here (spaces-on (getD xs at 0 ∷ drop (at + 1) xs) (first e))
+
+  pub spaces-no : isWhite (getD xs at 0) ≡ false → spaces (drop at xs) ≡ bad
+  spaces-no e = rw here (spaces-off (getD xs at 0) (drop (at + 1) xs) e)
 
   pub digits-yes : isDigit (getD xs at 0) ≡ true → digits (drop at xs) ≡ getD xs at 0 ∷ digits (drop (at + 1) xs)
   digits-yes e = ap digits here ∙ digits-more (getD xs at 0) (drop (at + 1) xs) e

@@ -17,19 +17,26 @@ magic = do
   byte (λ b. eqb b 80)
   byte (λ b. eqb b 53)
 
--- White space, then a number.
-unfoldable pub field : Parser ℕ
-unfolding spaces number next
-field = do
-  spaces
+-- White space, as a parser of it has it, then a number.
+unfoldable pub fieldOver : Parser (Unit {0}) → Parser ℕ
+unfolding number next
+fieldOver white = do
+  white
   number
 
-unfoldable pub header : Parser Fields
-unfolding magic field space next
-header = do
+unfoldable pub headerOver : Parser (Unit {0}) → Parser Fields
+unfolding magic fieldOver space next
+headerOver white = do
   magic
-  w ← field
-  h ← field
-  m ← field
+  w ← fieldOver white
+  h ← fieldOver white
+  m ← fieldOver white
   space
   give (record { width = w; height = h; maxval = m })
+
+-- The header, with the white space of document 02, a.
+abbrev pub field : Parser ℕ
+field = fieldOver spaces
+
+abbrev pub header : Parser Fields
+header = headerOver spaces

@@ -6,13 +6,16 @@ use Prim.Native.Nat.{ℕ, _≤_}
 use native.Mathlib.Decide.{decLe}
 use native.Mathlib.Omega.{arith}
 use lib.ListN.{length}
-use Rattle.headers.specs.Parser.{Parsed, refused, got, bad, Parser, next, byte, byte-takes}
-use Rattle.headers.specs.Space.{isSpace, trimmed, trimmed-more, trimmed-stop, space, spaces}
+use Rattle.headers.specs.Parser.{Parsed, refused, got, bad, Parser, next, byte}
 use Rattle.headers.specs.Number.{isDigit, digits, behind, decimalValue, number}
 use Rattle.headers.specs.NumberLaws.{digits-more, digits-stop, behind-more, behind-stop, number-good, number-none, number-long}
-use Rattle.headers.specs.File.{Each, none, more, White, Numeral}
+use Rattle.headers.specs.File.{Each, none, more, Numeral}
 
--- A list does not go on with a byte that passes a test.
+-- A list goes on with a byte that passes a test.
+pub data Starts (test : ℕ → Bool) : List ℕ → Type 0 where
+  first : {b : ℕ} {bytes : List ℕ} → test b ≡ true → Starts test (b ∷ bytes)
+
+-- A list does not.
 pub data Stops (test : ℕ → Bool) : List ℕ → Type 0 where
   ended : Stops test []
   other : {b : ℕ} {bytes : List ℕ} → test b ≡ false → Stops test (b ∷ bytes)
@@ -42,41 +45,6 @@ byte-taken test (b ∷ bytes) rest e = pick (test b) refl e
         → (c : ℕ) × (test c ≡ true) × (b ∷ bytes ≡ c ∷ rest)
     pick true h e = (b, h, cc)
     pick false h e = absurd (not-got e)
-
--- White space.
-trimmed-split : (bytes : List ℕ) → (s : List ℕ) × Each isSpace s × (bytes ≡ s ++ trimmed bytes)
-unfolding trimmed
-trimmed-split [] = ([], none, refl)
-trimmed-split (b ∷ bytes) = pick (isSpace b) refl (trimmed-split bytes)
-  where
-    pick : (t : Bool) → isSpace b ≡ t → ((s : List ℕ) × Each isSpace s × (bytes ≡ s ++ trimmed bytes))
-        → (s : List ℕ) × Each isSpace s × (b ∷ bytes ≡ s ++ trimmed (b ∷ bytes))
-    pick true h (s, w, e) = (b ∷ s, more h w, ap (λ (l : List ℕ). b ∷ l) (e ∙ ap (λ (l : List ℕ). s ++ l) (sym (trimmed-more b bytes h))))
-    pick false h r = ([], none, sym (trimmed-stop b bytes h))
-
-trimmed-all : {s : List ℕ} (rest : List ℕ) → Each isSpace s → Stops isSpace rest → trimmed (s ++ rest) ≡ rest
-unfolding trimmed
-trimmed-all rest none ended = refl
-trimmed-all rest none (other {b} {bytes} h) = trimmed-stop b bytes h
-trimmed-all rest (more {b} {bytes = s} h w) stop = trimmed-more b (s ++ rest) h ∙ trimmed-all rest w stop
-
-pub spaces-taken : (bytes rest : List ℕ) → spaces bytes ≡ got tt rest → (s : List ℕ) × White s × (bytes ≡ s ++ rest)
-unfolding spaces
-spaces-taken bytes rest e =
-    let (u, mid, p, q) = next-passed (space bytes) (λ _ l. got tt (trimmed l)) e in
-    let (b, h, start) = byte-taken isSpace bytes mid p in
-    let (s, w, split) = trimmed-split mid in
-    let t : trimmed mid ≡ rest = cc in
-    (b ∷ s, record { some = omega arith; each = more h w }, start ∙ ap (λ (l : List ℕ). b ∷ l) (split ∙ ap (λ (l : List ℕ). s ++ l) t))
-
-spaces-each : {s : List ℕ} (rest : List ℕ) → Each isSpace s → 1 ≤ length s → Stops isSpace rest → spaces (s ++ rest) ≡ got tt rest
-unfolding spaces
-spaces-each rest none h stop = absurd (omega arith)
-spaces-each rest (more {b} {bytes = s} e w) h stop =
-    ap (λ p. next p (λ _ l. got tt (trimmed l))) (byte-takes isSpace b (s ++ rest) e) ∙ ap (got tt) (trimmed-all rest w stop)
-
-pub spaces-takes : (s rest : List ℕ) → White s → Stops isSpace rest → spaces (s ++ rest) ≡ got tt rest
-spaces-takes s rest w stop = spaces-each rest (w .each) (w .some) stop
 
 -- Numbers.
 digits-split : (bytes : List ℕ) → Each isDigit (digits bytes) × (bytes ≡ digits bytes ++ behind bytes)

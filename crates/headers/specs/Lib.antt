@@ -6,6 +6,12 @@ pub mod NumberLaws
 pub mod Header
 pub mod File
 pub mod Layout
+pub mod Refusing
+pub mod Reading
+pub mod Plain
+pub mod Whites
+pub mod Over
 pub mod FileLaws
+pub mod Remarks
 pub mod Steps
 pub mod Sequence

@@ -1,37 +1,44 @@
--- White space, in one place: "one or more of blank, tab, LF, CR", and "A number sign is not white space" (document 01).
-use mathlib.Core.Path.{_≡_, refl}
-use mathlib.Core.Bool.{Bool, true, false, _||_}
-use mathlib.Core.List.{List, [], _∷_}
+-- White space of a header: "one or more of blank, tab, LF, CR" (document 01), and remarks: "From a number sign up to and including the next
+-- LF or CR, header bytes before the end of maxval now count as white space" (document 02, a).
+use mathlib.Core.Bool.{Bool, true, false, not, _||_}
+use mathlib.Core.List.{[], _∷_}
 use Prim.Native.Nat.{ℕ}
 use lib.Dec.{eqb}
-use Rattle.headers.specs.Parser.{got, Parser, byte, next, _>>_}
+use Rattle.headers.specs.Parser.{got, bad, Parser, byte, ahead, next, _>>_}
 
 -- Blank, tab, LF, CR.
 unfoldable pub isSpace : ℕ → Bool
 isSpace b = eqb b 32 || (eqb b 9 || (eqb b 10 || eqb b 13))
 
--- What is left past the white space at the front, if any.
-unfoldable pub trimmed : List ℕ → List ℕ
-unfolding isSpace
-trimmed [] = []
-trimmed (b ∷ bytes) = elim (isSpace b) [ true ↦ trimmed bytes | false ↦ b ∷ bytes ]
+-- The number sign, which begins a remark.
+unfoldable pub isSign : ℕ → Bool
+isSign b = eqb b 35
 
-pub trimmed-more : (b : ℕ) (bytes : List ℕ) → isSpace b ≡ true → trimmed (b ∷ bytes) ≡ trimmed bytes
-unfolding trimmed
-trimmed-more b bytes e = rw (e, trimmed) refl
+-- LF or CR, which end it.
+unfoldable pub isEnd : ℕ → Bool
+isEnd b = eqb b 10 || eqb b 13
 
-pub trimmed-stop : (b : ℕ) (bytes : List ℕ) → isSpace b ≡ false → trimmed (b ∷ bytes) ≡ b ∷ bytes
-unfolding trimmed
-trimmed-stop b bytes e = rw (e, trimmed) refl
+-- The first byte of white space.
+unfoldable pub isWhite : ℕ → Bool
+unfolding isSpace isSign
+isWhite b = isSpace b || isSign b
 
--- One white space byte.
+-- Past the white space at the front, if any; `inside` a remark, past its end first. "A remark that never ends is a bad header."
+unfoldable pub skip : Bool → Parser (Unit {0})
+unfolding isSign isEnd isWhite
+skip true [] = bad
+skip false [] = got tt []
+skip true (b ∷ bytes) = skip (not (isEnd b)) bytes
+skip false (b ∷ bytes) = elim (isWhite b) [ true ↦ skip (isSign b) bytes | false ↦ got tt (b ∷ bytes) ]
+
+-- White space: there is some.
+unfoldable pub spaces : Parser (Unit {0})
+unfolding isWhite ahead skip next
+spaces = do
+  ahead isWhite
+  skip false
+
+-- "The single byte after maxval stays plain white space" (document 02, a).
 unfoldable pub space : Parser (Unit {0})
 unfolding isSpace byte
 space = byte isSpace
-
--- One or more.
-unfoldable pub spaces : Parser (Unit {0})
-unfolding space trimmed next
-spaces = do
-  space
-  λ bytes. got tt (trimmed bytes)

@@ -3,6 +3,7 @@ use mathlib.Core.Path.{_≡_, refl}
 use mathlib.Core.List.{List, [], _∷_, map}
 use Prim.Native.Nat.{ℕ}
 use Rattle.pgm.specs.Picture.{answer, refusal}
+use Rattle.pgm.specs.Remarks.{plainAnswer}
 use Rattle.pgm.specs.declared.Picture.{Picture}
 
 -- A file and its answer.
@@ -17,6 +18,11 @@ accepted n maxval start length = record { number = 0; n = n; maxval = maxval; st
 p5 : List ℕ → List ℕ
 p5 rest = 80 ∷ 53 ∷ 10 ∷ rest
 
+-- A remark straight after P5, ended by LF, and one that ends the number before it: "1#x", CR, "1" are the numbers 1 and 1. The CR ends the
+-- remark, so that the LF behind it is plain. The number sign past the byte after maxval is the sample.
+abbrev pub remarked : List ℕ
+remarked = 80 ∷ 53 ∷ 35 ∷ 80 ∷ 10 ∷ 49 ∷ 35 ∷ 120 ∷ 13 ∷ 10 ∷ 49 ∷ 32 ∷ 57 ∷ 57 ∷ 32 ∷ 35 ∷ []
+
 pub examples : List Example
 examples =
     -- Dial 2: P5, LF, "4 4", LF, 255, LF and sixteen bytes.
@@ -29,10 +35,14 @@ examples =
     ∷ record { bytes = 80 ∷ 53 ∷ 32 ∷ 9 ∷ 10 ∷ 13 ∷ 48 ∷ 48 ∷ 48 ∷ 48 ∷ 49 ∷ 13 ∷ 49 ∷ 9 ∷ 55 ∷ 32 ∷ 7 ∷ []; answered = accepted 0 7 16 1 }
     -- One white space byte after maxval: the LF after CR is the sample.
     ∷ record { bytes = p5 (49 ∷ 32 ∷ 49 ∷ 32 ∷ 57 ∷ 57 ∷ 13 ∷ 10 ∷ []); answered = accepted 0 99 10 1 }
-    -- 10: nothing; no white space after P5; a number sign; six digits; maxval with nothing after it.
+    ∷ record { bytes = remarked; answered = accepted 0 99 15 1 }
+    -- 10: a remark inside P5; one that never ends; a number sign straight after maxval.
+    ∷ record { bytes = 80 ∷ 35 ∷ 10 ∷ 53 ∷ 10 ∷ 49 ∷ 32 ∷ 49 ∷ 32 ∷ 57 ∷ 32 ∷ 1 ∷ []; answered = refusal 10 }
+    ∷ record { bytes = p5 (49 ∷ 32 ∷ 49 ∷ 32 ∷ 35 ∷ 57 ∷ 32 ∷ 1 ∷ []); answered = refusal 10 }
+    ∷ record { bytes = p5 (49 ∷ 32 ∷ 49 ∷ 32 ∷ 57 ∷ 35 ∷ 10 ∷ 1 ∷ []); answered = refusal 10 }
+    -- 10: nothing; no white space after P5; six digits; maxval with nothing after it.
     ∷ record { bytes = []; answered = refusal 10 }
     ∷ record { bytes = 80 ∷ 53 ∷ 49 ∷ 32 ∷ 49 ∷ 32 ∷ 57 ∷ 32 ∷ 1 ∷ []; answered = refusal 10 }
-    ∷ record { bytes = p5 (35 ∷ 10 ∷ 49 ∷ 32 ∷ 49 ∷ 32 ∷ 57 ∷ 32 ∷ 1 ∷ []); answered = refusal 10 }
     ∷ record { bytes = p5 (48 ∷ 48 ∷ 48 ∷ 48 ∷ 48 ∷ 49 ∷ 32 ∷ 49 ∷ 32 ∷ 57 ∷ 32 ∷ 1 ∷ []); answered = refusal 10 }
     ∷ record { bytes = p5 (49 ∷ 32 ∷ 49 ∷ 32 ∷ 57 ∷ []); answered = refusal 10 }
     -- A header that breaks off is 10 even though the width is 3.
@@ -56,3 +66,8 @@ examples =
 pub examples-answered : map (λ e. answer (e .bytes)) examples ≡ map (λ e. e .answered) examples
 unfolding examples p5 accepted refusal answer
 examples-answered = refl
+
+-- The one with remarks was 10.
+pub remarked-was-10 : plainAnswer remarked ≡ refusal 10
+unfolding refusal plainAnswer
+remarked-was-10 = refl

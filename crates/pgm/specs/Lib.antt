@@ -4,4 +4,5 @@ pub mod Picture
 pub mod PictureLaws
 pub mod Accepted
 pub mod Callers
+pub mod Remarks
 pub mod Examples

@@ -7,7 +7,8 @@ use denote.Ref.{RefT, ptr, now}
 use lib.Dec.{leb, eqb}
 use lib.ListN.{length, take, drop}
 use Rattle.headers.specs.Parser.{Parsed, refused, got, Parser, next, demand, _>>=_}
-use Rattle.headers.specs.Header.{Fields, header}
+use Rattle.headers.specs.Header.{Fields, headerOver, header}
+use Rattle.headers.specs.Space.{spaces}
 use Rattle.pgm.specs.Exponent.{exponent, sideNumber, sideN}
 use Rattle.pgm.specs.declared.Picture.{Picture}
 
@@ -36,7 +37,7 @@ judged f raster = demand 11 (square f) (demand 12 (ranged f) (demand 13 (filled 
 
 -- "PGM: rising" (document 01, the order of the checks): the whole header is judged before 11.
 unfoldable pub picture : Parser Fields
-unfolding header judged next
+unfolding headerOver spaces judged next
 picture = do
   f ← header
   judged f

@@ -6,7 +6,7 @@ use native.Mathlib.Omega.{arith}
 use lib.ListN.{drop}
 use Rattle.headers.specs.Parser.{Parser, give, _>>=_, _>>_}
 use Rattle.headers.specs.Space.{space}
-use Rattle.headers.specs.Header.{Fields, field, header}
+use Rattle.headers.specs.Header.{Fields, field, headerOver, header}
 use Rattle.headers.specs.Sequence.{past-bad, past-on, past-inside, number-bad, number-on}
 use borrow.Author.Needs.{needs}
 use Rattle.headers.proofs.parse.Statement.{statement}
@@ -47,7 +47,7 @@ abbrev bytes4 : tie.After-known-told4 → List ℕ
 bytes4 c = bytes3 (c .before .before .before .before)
 
 passed-magic : (c : tie.After-known-told) → header (bytes1 c) ≡ after-magic (drop (c .before .c .given .0 .0 .at) (bytes1 c))
-unfolding header
+unfolding headerOver
 passed-magic c = past-on (c .before .before .before .magic .ensures) (c .before .c .given .1) _
 
 passed-width : (c : tie.After-known-told2) → header (bytes2 c) ≡ after-width (c .before .width .given .0 .0) (drop (c .before .width .given .0 .1 .0 .at) (bytes2 c))
@@ -79,7 +79,7 @@ enum-told : tie.Need-enum-told
 enum-told c = search needs
 
 returns : tie.Need-returns
-unfolding header
+unfolding headerOver
 returns c = record { says = sym (past-bad (c .before .before .magic .ensures) (c .enum-told .given .1) _); inside = omega arith }
 
 field-requires : tie.Need-field-requires

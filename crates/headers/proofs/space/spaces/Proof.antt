@@ -1,41 +1,35 @@
--- One white space byte, then those that follow it, as the definition has them.
-use mathlib.Core.Path.{sym, ap, _∙_}
+-- The first byte must be white; the rest is skipped with it.
+use mathlib.Core.Path.{sym, _∙_}
 use native.Mathlib.Omega.{arith}
-use Rattle.headers.specs.Parser.{got}
-use Rattle.headers.specs.Space.{spaces}
-use Rattle.headers.specs.Sequence.{past-bad, past-on, past-inside}
 use borrow.Author.Needs.{needs}
+use borrow.Author.Tests.{not-true, not-false}
+use Rattle.headers.proofs.Places.{spaces-end, spaces-yes, spaces-no}
 use Rattle.headers.proofs.space.spaces.Statement.{statement}
 use Rattle.headers.proofs.space.spaces.Tie as tie
 
-space-requires : tie.Need-space-requires
-space-requires c κs = search needs
-
-enum-known-next : tie.Need-enum-known-next
-enum-known-next c = search needs
-
-enum-told : tie.Need-enum-told
-enum-told c = search needs
-
 returns : tie.Need-returns
-unfolding spaces
-returns c =
-    record {
-      says = sym (past-bad (c .before .before .space .ensures) (c .enum-told .given .1) _);
-      inside = omega arith;
-    }
+returns c = record { says = sym (spaces-end _ _ (c .if1 .taken)); inside = omega arith }
 
-trim-requires : tie.Need-trim-requires
-trim-requires c κs = past-inside (c .before .before .before .space .ensures) (c .before .next .given .1)
+shared-slice-read-is-white : tie.Need-shared-slice-read-is-white
+shared-slice-read-is-white c = search needs
+
+is-white-requires : tie.Need-is-white-requires
+is-white-requires c κs = search needs
 
 returns-2 : tie.Need-returns-2
-unfolding spaces
 returns-2 c =
-    record {
-      says = ap (got tt) (c .trim .ensures .0) ∙ sym (past-on (c .before .before .before .before .space .ensures) (c .before .before .next .given .1) _);
-      inside = c .trim .ensures .1;
-    }
+    let other = sym (c .before .is-white .ensures) ∙ not-true _ (c .if2 .taken) in
+    record { says = sym (spaces-no _ _ (c .before .before .before .if1 .left) other); inside = omega arith }
+
+skip-requires : tie.Need-skip-requires
+skip-requires c κs = omega (arith, c .before .before .before .if1 .left)
+
+returns-3 : tie.Need-returns-3
+returns-3 c =
+    let white = sym (c .before .before .is-white .ensures) ∙ not-false _ (c .before .if2 .left) in
+    let p = c .skip .ensures in
+    record { says = p .says ∙ sym (spaces-yes _ _ (c .before .before .before .before .if1 .left) white); inside = p .inside }
 
 pub spaces-spec : {M : Type 1} → statement M
 spaces-spec =
-    tie.close (tie.spec space-requires enum-known-next enum-told returns trim-requires returns-2)
+    tie.close (tie.spec returns shared-slice-read-is-white is-white-requires returns-2 skip-requires returns-3)
