@@ -216,38 +216,47 @@ fn headers_of_pieces() {
     cases.end();
 }
 
-/// What Netpbm's own programs read from a file on their standard input, where they are installed (Debian's package netpbm).
-fn netpbm(program: &str, bytes: &[u8]) -> Option<String> {
+/// What one of Netpbm's programs makes of the bytes, where it is installed (Debian's package netpbm).
+fn netpbm(program: &str, words: &[&str], bytes: &[u8]) -> Option<Vec<u8>> {
+    let mut command = Command::new(program);
     let mut child =
-        Command::new(program).stdin(Stdio::piped()).stdout(Stdio::piped()).stderr(Stdio::null()).spawn().ok()?;
+        command.args(words).stdin(Stdio::piped()).stdout(Stdio::piped()).stderr(Stdio::null()).spawn().ok()?;
     let mut stdin = child.stdin.take().expect("standard input");
-    stdin.write_all(bytes).expect("a small file is taken whole");
+    // A program that reads nothing may have ended.
+    let _ = stdin.write_all(bytes);
     drop(stdin);
     let output = child.wait_with_output().expect("the program ends");
-    Some(String::from_utf8(output.stdout).expect("text"))
+    assert!(output.status.success(), "{program} {words:?} takes {}", Shown(bytes));
+    Some(output.stdout)
 }
 
-/// Netpbm reads the same width, height, maxval and samples out of files with remarks.
+/// Netpbm reads the same width, height, maxval and samples out of files with remarks: out of its own with remarks put in.
 #[test]
 fn netpbm_agrees() {
     let mut cases = Cases::of("Netpbm agrees");
     let mut random = Random::of("Netpbm agrees");
     let mut compared = 0;
-    for _ in 0..100 {
+    for turn in 0..120 {
+        let n = turn % 6;
+        let side = (1 << n).to_string();
+        let own = netpbm("pgmnoise", &[&side, &side], b"");
+        let any = || random.bytes(1 << (2 * n));
+        let samples = own.map_or_else(any, |file| file[read(&file).start..].to_vec());
         let mut white = || {
             let pieces = ["\n", " ", "\t", "\r", "# a remark\n", "#\n", "#1 1\r", "#x\r\n"];
             (0..=random.below(3)).map(|_| pieces[random.below(pieces.len())]).collect::<String>()
         };
-        let bytes = format!("P5{}4{}4{}99\n0123456789#:;<=>", white(), white(), white()).into_bytes();
+        let bytes = picture(&format!("P5{}{side}{}{side}{}255\n", white(), white(), white()), &samples);
         assert_eq!(judged(&bytes), 0, "{}", Shown(&bytes));
         cases.ran();
-        let Some(plain) = netpbm("pnmtoplainpnm", &bytes) else { continue };
-        let words: Vec<&str> = plain.split_whitespace().collect();
-        let samples: Vec<String> = b"0123456789#:;<=>".iter().map(u8::to_string).collect();
-        assert_eq!(words[..4], ["P2", "4", "4", "99"], "{}", Shown(&bytes));
-        assert_eq!(words[4..], samples, "{}", Shown(&bytes));
-        let told = netpbm("pnmfile", &bytes).expect("pnmfile stands beside pnmtoplainpnm");
-        assert!(told.contains("PGM raw, 4 by 4  maxval 99"), "{}: {told}", Shown(&bytes));
+        let Some(plain) = netpbm("pnmtoplainpnm", &[], &bytes) else { continue };
+        let expected =
+            format!("P2 {side} {side} 255 {}", samples.iter().map(u8::to_string).collect::<Vec<_>>().join(" "));
+        let plain = String::from_utf8(plain).expect("a plain PGM is text");
+        assert_eq!(plain.split_whitespace().collect::<Vec<_>>().join(" "), expected, "{}", Shown(&bytes));
+        let told = netpbm("pnmfile", &[], &bytes).expect("pnmfile stands beside pnmtoplainpnm");
+        let told = String::from_utf8(told).expect("what is told is text");
+        assert!(told.contains(&format!("PGM raw, {side} by {side}  maxval 255")), "{}: {told}", Shown(&bytes));
         compared += 1;
     }
     println!("{compared} files with remarks read by Netpbm too");

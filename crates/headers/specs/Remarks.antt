@@ -60,11 +60,11 @@ pub sign-ends-number : (digits rest : List ℕ) (value : ℕ) → Numeral digits
 unfolding isDigit
 sign-ends-number digits rest value n = number-takes digits (35 ∷ rest) value n (other refl)
 
--- So many numbers, white space before each, and what stands behind them.
-pub data Numbered (rest : List ℕ) : ℕ → List ℕ → Type 0 where
-  behind : Numbered rest 0 rest
-  one-more : {k : ℕ} {bytes : List ℕ} (white digits : List ℕ) (value : ℕ) → White white → Numeral digits value → Numbered rest k bytes
-      → Numbered rest (suc k) (white ++ (digits ++ bytes))
+-- So many numbers, white space before each, and the rest behind them.
+pub data Numerals (rest : List ℕ) : ℕ → List ℕ → Type 0 where
+  no-more : Numerals rest 0 rest
+  one-more : {k : ℕ} {bytes : List ℕ} (white digits : List ℕ) (value : ℕ) → White white → Numeral digits value → Numerals rest k bytes
+      → Numerals rest (suc k) (white ++ (digits ++ bytes))
 
 -- White space in which a remark never ends.
 pub record Unending (bytes : List ℕ) : Type 0 where
@@ -122,12 +122,12 @@ module _ {rest : List ℕ} (u : Unending rest) where
       _
 
   -- "A remark that never ends is a bad header": after P5, after the width and after the height.
-  pub unending-remark : {k : ℕ} {bytes : List ℕ} → Numbered rest k bytes → k ≤ 2 → header (80 ∷ 53 ∷ bytes) ≡ bad
-  unending-remark behind h = bad-width (80 ∷ 53 ∷ rest) (magic-takes rest) field-bad
-  unending-remark (one-more s d v w n behind) h =
+  pub unending-remark : {k : ℕ} {bytes : List ℕ} → Numerals rest k bytes → k ≤ 2 → header (80 ∷ 53 ∷ bytes) ≡ bad
+  unending-remark no-more h = bad-width (80 ∷ 53 ∷ rest) (magic-takes rest) field-bad
+  unending-remark (one-more s d v w n no-more) h =
       let l1 : List ℕ = s ++ (d ++ rest) in
       bad-height (80 ∷ 53 ∷ l1) (magic-takes l1) (field-takes reads-spaces s d rest v w n (white-stops starts)) field-bad
-  unending-remark (one-more s d v w n (one-more s2 d2 v2 w2 n2 behind)) h =
+  unending-remark (one-more s d v w n (one-more s2 d2 v2 w2 n2 no-more)) h =
       let l2 : List ℕ = s2 ++ (d2 ++ rest) in
       let l1 : List ℕ = s ++ (d ++ l2) in
       bad-maxval (80 ∷ 53 ∷ l1) (magic-takes l1) (field-takes reads-spaces s d l2 v w n (reads-spaces .begins s2 (d2 ++ rest) w2))
@@ -135,12 +135,12 @@ module _ {rest : List ℕ} (u : Unending rest) where
   unending-remark (one-more s d v w n (one-more s2 d2 v2 w2 n2 (one-more s3 d3 v3 w3 n3 x))) h = absurd (omega arith)
 
 -- "a number sign straight after maxval is a bad header".
-pub sign-after-maxval : {k : ℕ} {rest bytes : List ℕ} → Numbered (35 ∷ rest) k bytes → k ≡ 3 → header (80 ∷ 53 ∷ bytes) ≡ bad
+pub sign-after-maxval : {k : ℕ} {rest bytes : List ℕ} → Numerals (35 ∷ rest) k bytes → k ≡ 3 → header (80 ∷ 53 ∷ bytes) ≡ bad
 unfolding space isSpace isDigit
-sign-after-maxval behind h = absurd (omega arith)
-sign-after-maxval (one-more s d v w n behind) h = absurd (omega arith)
-sign-after-maxval (one-more s d v w n (one-more s2 d2 v2 w2 n2 behind)) h = absurd (omega arith)
-sign-after-maxval {rest} (one-more s d v w n (one-more s2 d2 v2 w2 n2 (one-more s3 d3 v3 w3 n3 behind))) h =
+sign-after-maxval no-more h = absurd (omega arith)
+sign-after-maxval (one-more s d v w n no-more) h = absurd (omega arith)
+sign-after-maxval (one-more s d v w n (one-more s2 d2 v2 w2 n2 no-more)) h = absurd (omega arith)
+sign-after-maxval {rest} (one-more s d v w n (one-more s2 d2 v2 w2 n2 (one-more s3 d3 v3 w3 n3 no-more))) h =
     let l4 : List ℕ = 35 ∷ rest in
     let l3 : List ℕ = s3 ++ (d3 ++ l4) in
     let l2 : List ℕ = s2 ++ (d2 ++ l3) in

@@ -8,7 +8,7 @@ use Rattle.headers.specs.Header.{Fields, headerOver, header}
 use Rattle.headers.specs.File.{PlainFile}
 use Rattle.headers.specs.Layout.{next-on}
 use Rattle.headers.specs.Plain.{plainSpaces, plainHeader}
-use Rattle.headers.specs.Remarks.{Numbered, Unending, plain-header-accepts-exactly, plain-accepted, plain-header-10, unending-remark, sign-after-maxval}
+use Rattle.headers.specs.Remarks.{Numerals, Unending, plain-header-accepts-exactly, plain-accepted, plain-header-10, unending-remark, sign-after-maxval}
 use Rattle.pgm.specs.Picture.{judged, picture, refusal, said, answer, Answered}
 use Rattle.pgm.specs.declared.Picture.{Picture}
 
@@ -68,9 +68,9 @@ module _ {bytes after : List ℕ} {r : Picture} (a : Answered bytes after r) whe
   read-narrows d = only-ten-changed bytes (λ e. d (ap (λ (p : Picture). p .number) (a .answered) ∙ e))
 
   -- "a number sign straight after maxval is a bad header".
-  pub sign-after-maxval-is-10 : {k : ℕ} {rest l : List ℕ} → bytes ≡ 80 ∷ 53 ∷ l → Numbered (35 ∷ rest) k l → k ≡ 3 → r ≡ refusal 10
+  pub sign-after-maxval-is-10 : {k : ℕ} {rest l : List ℕ} → bytes ≡ 80 ∷ 53 ∷ l → Numerals (35 ∷ rest) k l → k ≡ 3 → r ≡ refusal 10
   sign-after-maxval-is-10 e x three = a .answered ∙ bad-answer bytes (ap header e ∙ sign-after-maxval x three)
 
   -- "A remark that never ends is a bad header."
-  pub unending-remark-is-10 : {k : ℕ} {rest l : List ℕ} → bytes ≡ 80 ∷ 53 ∷ l → Numbered rest k l → k ≤ 2 → Unending rest → r ≡ refusal 10
+  pub unending-remark-is-10 : {k : ℕ} {rest l : List ℕ} → bytes ≡ 80 ∷ 53 ∷ l → Numerals rest k l → k ≤ 2 → Unending rest → r ≡ refusal 10
   unending-remark-is-10 e x few u = a .answered ∙ bad-answer bytes (ap header e ∙ unending-remark u x few)
