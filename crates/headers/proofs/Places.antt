@@ -6,7 +6,7 @@ use Prim.Native.Nat.{ℕ, _+_, _≤_, _<_}
 use native.Mathlib.Numerals.{add-one}
 use lib.ListN.{length, drop, getD, drop-of-length-le}
 use lib.Seq.{drop-cons}
-use Rattle.headers.specs.Parser.{got, bad, byte, byte-takes, byte-refuses, ahead, next}
+use Rattle.headers.specs.Parser.{got, bad, byte, byte-takes, byte-refuses}
 use Rattle.headers.specs.Space.{isSign, isEnd, isWhite, skip, spaces}
 use Rattle.headers.specs.Number.{isDigit, digits, behind}
 use Rattle.headers.specs.Layout.{first}
@@ -28,7 +28,7 @@ module _ (xs : List ℕ) (at : ℕ) (h : length xs ≤ at) where
   remark-end inside e = rw (e, drop-of-length-le xs h) refl
 
   pub spaces-end : spaces (drop at xs) ≡ bad
-  unfolding spaces ahead next
+  unfolding spaces
   spaces-end = rw (drop-of-length-le xs h) refl
 
   pub digits-end : digits (drop at xs) ≡ []

@@ -18,10 +18,14 @@ pub record PlainWhite (bytes : List ℕ) : Type 0 where
   pub some : 1 ≤ length bytes
   pub each : Each isSpace bytes
 
+-- What stands in a remark: no LF and no CR.
+abbrev pub Text : List ℕ → Type 0
+Text = Each (λ b. not (isEnd b))
+
 -- A piece of white space: one of those bytes, or a remark, "From a number sign up to and including the next LF or CR" (document 02, a).
 pub data Piece : List ℕ → Type 0 where
   plain : (b : ℕ) → isSpace b ≡ true → Piece (b ∷ [])
-  remark : (text : List ℕ) (last : ℕ) → Each (λ b. not (isEnd b)) text → isEnd last ≡ true → Piece (35 ∷ (text ++ (last ∷ [])))
+  remark : (text : List ℕ) (last : ℕ) → Text text → isEnd last ≡ true → Piece (35 ∷ (text ++ (last ∷ [])))
 
 -- Pieces one after the other; one or more make white space.
 pub data Pieces : List ℕ → Type 0 where

@@ -35,6 +35,10 @@ pub next-on : {A B : Type 0} {p : Parsed A} {a : A} {mid : List ℕ} → p ≡ g
 unfolding next
 next-on e then = ap (λ q. next q then) e
 
+pub next-bad : {A B : Type 0} {p : Parsed A} → p ≡ bad → (then : A → Parser B) → next p then ≡ bad
+unfolding next
+next-bad e then = ap (λ q. next q then) e
+
 -- One byte.
 pub byte-taken : (test : ℕ → Bool) (bytes rest : List ℕ) → byte test bytes ≡ got tt rest → (b : ℕ) × (test b ≡ true) × (bytes ≡ b ∷ rest)
 unfolding byte

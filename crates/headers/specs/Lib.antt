@@ -5,9 +5,10 @@ pub mod Number
 pub mod NumberLaws
 pub mod Header
 pub mod File
+pub mod Bytes
 pub mod Layout
 pub mod Refusing
-pub mod Reading
+pub mod ReadsSpace
 pub mod Plain
 pub mod Whites
 pub mod Over

@@ -14,8 +14,8 @@ use Rattle.headers.specs.Header.{Fields, magic, fieldOver, headerOver}
 use Rattle.headers.specs.File.{Each, none, more, Numeral, FileOver}
 use Rattle.headers.specs.Layout.{Starts, first, Stops, other, next-passed, next-on, byte-taken, number-taken, number-takes}
 use Rattle.headers.specs.Refusing.{Refuses10, never-refused, byte-10, next-10, number-10, magic-10}
-use Rattle.headers.specs.Reading.{ReadsSpace}
-use Rattle.headers.specs.Plain.{space-not-digit}
+use Rattle.headers.specs.ReadsSpace.{ReadsSpace}
+use Rattle.headers.specs.Bytes.{space-not-digit}
 
 numeral-starts : {ds : List ℕ} (rest : List ℕ) → Each isDigit ds → 1 ≤ length ds → Starts isDigit (ds ++ rest)
 numeral-starts rest none h = absurd (omega arith)

@@ -44,19 +44,6 @@ pub byte-refuses : (test : ℕ → Bool) (b : ℕ) (rest : List ℕ) → test b 
 unfolding byte
 byte-refuses test b rest e = rw (e, byte) refl
 
--- Looks at the next byte, which must pass a test, and takes nothing.
-unfoldable pub ahead : (ℕ → Bool) → Parser (Unit {0})
-ahead test [] = bad
-ahead test (b ∷ bytes) = elim (test b) [ true ↦ got tt (b ∷ bytes) | false ↦ bad ]
-
-pub ahead-passes : (test : ℕ → Bool) (b : ℕ) (rest : List ℕ) → test b ≡ true → ahead test (b ∷ rest) ≡ got tt (b ∷ rest)
-unfolding ahead
-ahead-passes test b rest e = rw (e, ahead) refl
-
-pub ahead-refuses : (test : ℕ → Bool) (b : ℕ) (rest : List ℕ) → test b ≡ false → ahead test (b ∷ rest) ≡ bad
-unfolding ahead
-ahead-refuses test b rest e = rw (e, ahead) refl
-
 -- What follows where a test passes, and a refusal with a number where it fails.
 unfoldable pub demand : {A : Type 0} → ℕ → Bool → Parsed A → Parsed A
 demand number true more = more

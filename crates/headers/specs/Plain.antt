@@ -1,20 +1,19 @@
 -- White space and headers as document 01 had them: "White space is one or more of blank, tab, LF, CR", "A number sign is not white space."
 use mathlib.Core.Path.{_≡_, refl, sym, ap, _∙_}
-use mathlib.Core.Bool.{Bool, true, false, true≢false}
+use mathlib.Core.Bool.{Bool, true, false}
 use mathlib.Core.List.{List, [], _∷_, _++_}
 use Prim.Native.Nat.{ℕ, _≤_}
 use native.Mathlib.Omega.{arith}
-use borrow.Author.Tests.{ne-eqb}
 use lib.ListN.{length}
 use Rattle.headers.specs.Parser.{got, Parser, byte-takes, next, _>>_}
 use Rattle.headers.specs.Space.{isSpace, space}
 use Rattle.headers.specs.Number.{isDigit}
-use Rattle.headers.specs.NumberLaws.{digit-range}
+use Rattle.headers.specs.Bytes.{digit-not-space, space-not-digit}
 use Rattle.headers.specs.Header.{Fields, headerOver}
 use Rattle.headers.specs.File.{Each, none, more, PlainWhite}
 use Rattle.headers.specs.Layout.{Starts, first, Stops, other, next-passed, byte-taken}
 use Rattle.headers.specs.Refusing.{Refuses10, never-refused, byte-10, next-10}
-use Rattle.headers.specs.Reading.{ReadsSpace}
+use Rattle.headers.specs.ReadsSpace.{ReadsSpace}
 
 -- What is left past the bytes of white space at the front, if any.
 unfoldable pub trimmed : List ℕ → List ℕ
@@ -40,20 +39,6 @@ trimmed-more b bytes e = rw (e, trimmed) refl
 trimmed-stop : (b : ℕ) (bytes : List ℕ) → isSpace b ≡ false → trimmed (b ∷ bytes) ≡ b ∷ bytes
 unfolding trimmed
 trimmed-stop b bytes e = rw (e, trimmed) refl
-
--- No digit is white space, so white space and numbers end each other.
-pub digit-not-space : (b : ℕ) → isDigit b ≡ true → isSpace b ≡ false
-unfolding isSpace
-digit-not-space b e =
-    let (l, h) = digit-range b e in
-    rw (ne-eqb b 32 (λ w. omega arith), ne-eqb b 9 (λ w. omega arith), ne-eqb b 10 (λ w. omega arith), ne-eqb b 13 (λ w. omega arith)) refl
-
-pub space-not-digit : (b : ℕ) → isSpace b ≡ true → isDigit b ≡ false
-space-not-digit b e = pick (isDigit b) refl
-  where
-    pick : (t : Bool) → isDigit b ≡ t → isDigit b ≡ false
-    pick true d = absurd (true≢false (sym e ∙ digit-not-space b d))
-    pick false d = d
 
 trimmed-split : (bytes : List ℕ) → (s : List ℕ) × Each isSpace s × (bytes ≡ s ++ trimmed bytes)
 unfolding trimmed

@@ -7,7 +7,7 @@ use native.Mathlib.Decide.{decLe}
 use native.Mathlib.Omega.{arith}
 use lib.Dec.{eqb}
 use lib.ListN.{length}
-use Rattle.headers.specs.Parser.{Parsed, refused, got, Parser, next, byte, byte-takes, byte-refuses, ahead, ahead-passes, ahead-refuses}
+use Rattle.headers.specs.Parser.{Parsed, refused, got, Parser, next, byte, byte-takes, byte-refuses}
 use Rattle.headers.specs.Number.{digits, number}
 use Rattle.headers.specs.NumberLaws.{number-good, number-none, number-long}
 use Rattle.headers.specs.Header.{magic}
@@ -44,15 +44,6 @@ number-10 bytes k e = go (decLe 1 (length (digits bytes))) (decLe (length (digit
     go (no d) b = same-number (sym (number-none bytes (omega arith)) ∙ e)
     go (yes some) (no d) = same-number (sym (number-long bytes (omega arith)) ∙ e)
     go (yes some) (yes few) = never-refused (sym (number-good bytes some few) ∙ e)
-
-pub ahead-10 : (test : ℕ → Bool) → Refuses10 (ahead test)
-unfolding ahead
-ahead-10 test [] k e = same-number e
-ahead-10 test (b ∷ bytes) k e = pick (test b) refl
-  where
-    pick : (t : Bool) → test b ≡ t → k ≡ 10
-    pick true h = never-refused (sym (ahead-passes test b bytes h) ∙ e)
-    pick false h = same-number (sym (ahead-refuses test b bytes h) ∙ e)
 
 pub magic-10 : Refuses10 magic
 unfolding magic

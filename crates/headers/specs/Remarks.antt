@@ -1,17 +1,17 @@
 -- What remarks change: files without them stay files, and "A number sign inside a number ends that number", "a number sign straight after
 -- maxval is a bad header", "A remark that never ends is a bad header" (document 02, a).
 use mathlib.Core.Path.{_≡_, refl, ap, _∙_}
-use mathlib.Core.Bool.{true, false, not}
+use mathlib.Core.Bool.{true, false}
 use mathlib.Core.Logic.{_↔_}
 use mathlib.Core.List.{List, _∷_, _++_, append-assoc}
 use Prim.Native.Nat.{ℕ, suc, _≤_}
 use native.Mathlib.Omega.{arith}
-use Rattle.headers.specs.Parser.{Parsed, refused, got, bad, Parser, next, byte-refuses}
-use Rattle.headers.specs.Space.{isSpace, isEnd, isWhite, space, skip}
+use Rattle.headers.specs.Parser.{refused, got, bad, byte-refuses}
+use Rattle.headers.specs.Space.{isSpace, isWhite, space, skip}
 use Rattle.headers.specs.Number.{isDigit, number}
 use Rattle.headers.specs.Header.{Fields, magic, fieldOver, field, headerOver, header}
-use Rattle.headers.specs.File.{Each, none, more, PlainWhite, plain, Pieces, empty, follows, White, Numeral, File, PlainFile}
-use Rattle.headers.specs.Layout.{Starts, first, other, next-on, number-takes}
+use Rattle.headers.specs.File.{Each, none, more, PlainWhite, Text, plain, Pieces, empty, follows, White, Numeral, File, PlainFile}
+use Rattle.headers.specs.Layout.{Starts, first, other, next-on, next-bad, number-takes}
 use Rattle.headers.specs.Plain.{plainHeader, reads-plain}
 use Rattle.headers.specs.Whites.{skip-white, skip-inside, pieces-skipped, piece-white, spaces-on, white-stops, reads-spaces}
 use Rattle.headers.specs.Over.{magic-takes, field-takes, header-is-file-over, file-is-header-over, header-10-over}
@@ -71,10 +71,10 @@ pub record Unending (bytes : List ℕ) : Type 0 where
   pub white : List ℕ
   pub text : List ℕ
   pub pieces : Pieces white
-  pub no-end : Each (λ b. not (isEnd b)) text
+  pub no-end : Text text
   pub layout : bytes ≡ white ++ (35 ∷ text)
 
-never-ends : {text : List ℕ} → Each (λ b. not (isEnd b)) text → skip true text ≡ bad
+never-ends : {text : List ℕ} → Text text → skip true text ≡ bad
 unfolding skip
 never-ends none = refl
 never-ends (more {b} {bytes} e each) = skip-inside b bytes ∙ rw e (never-ends each)
@@ -83,10 +83,6 @@ unending-starts : {white : List ℕ} (text : List ℕ) → Pieces white → Star
 unfolding isWhite
 unending-starts text empty = first refl
 unending-starts text (follows {piece} {rest = white} p ps) = rw (append-assoc piece white (35 ∷ text)) (piece-white (white ++ (35 ∷ text)) p)
-
-next-bad : {A B : Type 0} {p : Parsed A} → p ≡ bad → (then : A → Parser B) → next p then ≡ bad
-unfolding next
-next-bad e then = ap (λ q. next q then) e
 
 -- The first step that is refused refuses the header.
 module _ (bytes : List ℕ) {l1 : List ℕ} (e1 : magic bytes ≡ got tt l1) where

@@ -4,7 +4,7 @@ use mathlib.Core.Bool.{Bool, true, false, not, _||_}
 use mathlib.Core.List.{[], _∷_}
 use Prim.Native.Nat.{ℕ}
 use lib.Dec.{eqb}
-use Rattle.headers.specs.Parser.{got, bad, Parser, byte, ahead, next, _>>_}
+use Rattle.headers.specs.Parser.{got, bad, Parser, byte}
 
 -- Blank, tab, LF, CR.
 unfoldable pub isSpace : ℕ → Bool
@@ -33,10 +33,9 @@ skip false (b ∷ bytes) = elim (isWhite b) [ true ↦ skip (isSign b) bytes | f
 
 -- White space: there is some.
 unfoldable pub spaces : Parser (Unit {0})
-unfolding isWhite ahead skip next
-spaces = do
-  ahead isWhite
-  skip false
+unfolding isSign isWhite skip
+spaces [] = bad
+spaces (b ∷ bytes) = elim (isWhite b) [ true ↦ skip (isSign b) bytes | false ↦ bad ]
 
 -- "The single byte after maxval stays plain white space" (document 02, a).
 unfoldable pub space : Parser (Unit {0})

@@ -1,56 +1,19 @@
 -- The parser of white space takes exactly the white space before a number.
 use mathlib.Core.Path.{_≡_, refl, sym, ap, _∙_}
-use mathlib.Core.Bool.{Bool, true, false, not, true≢false}
+use mathlib.Core.Bool.{Bool, true, false, not}
 use mathlib.Core.List.{List, [], _∷_, _++_, append-assoc}
 use Prim.Native.Nat.{ℕ, _≤_}
 use native.Mathlib.Omega.{arith}
-use borrow.Author.Tests.{eqb-true, ne-eqb}
+use borrow.Author.Tests.{eqb-true}
 use lib.ListN.{length}
-use Rattle.headers.specs.Parser.{Parsed, refused, got, bad, next, ahead, ahead-passes, ahead-refuses}
-use Rattle.headers.specs.Space.{isSpace, isSign, isEnd, isWhite, skip, spaces}
+use Rattle.headers.specs.Parser.{Parsed, refused, got, bad}
+use Rattle.headers.specs.Space.{isSign, isEnd, isWhite, skip, spaces}
 use Rattle.headers.specs.Number.{isDigit}
-use Rattle.headers.specs.NumberLaws.{digit-range}
-use Rattle.headers.specs.File.{Each, none, more, Piece, plain, remark, Pieces, empty, follows, White}
+use Rattle.headers.specs.Bytes.{digit-not-white, white-not-digit, space-not-sign, space-white, white-not-sign}
+use Rattle.headers.specs.File.{none, more, Text, Piece, plain, remark, Pieces, empty, follows, White}
 use Rattle.headers.specs.Layout.{Starts, first, Stops, other, not-got}
-use Rattle.headers.specs.Refusing.{Refuses10, same-number, never-refused, next-10, ahead-10}
-use Rattle.headers.specs.Reading.{ReadsSpace}
-use Rattle.headers.specs.Plain.{digit-not-space}
-
--- No digit is white.
-digit-not-white : (b : ℕ) → isDigit b ≡ true → isWhite b ≡ false
-unfolding isWhite
-digit-not-white b e =
-    let (l, h) = digit-range b e in
-    rw (digit-not-space b e, ne-eqb b 35 (λ w. omega arith)) refl
-
-white-not-digit : (b : ℕ) → isWhite b ≡ true → isDigit b ≡ false
-white-not-digit b e = pick (isDigit b) refl
-  where
-    pick : (t : Bool) → isDigit b ≡ t → isDigit b ≡ false
-    pick true d = absurd (true≢false (sym e ∙ digit-not-white b d))
-    pick false d = d
-
--- A byte of plain white space is white, and no number sign.
-space-not-sign : (b : ℕ) → isSpace b ≡ true → isSign b ≡ false
-unfolding isSpace isSign
-space-not-sign b e = pick (isSign b) refl
-  where
-    pick : (t : Bool) → isSign b ≡ t → isSign b ≡ false
-    pick false d = d
-    pick true d = absurd (true≢false (sym e ∙ rw (eqb-true b 35 d) refl))
-
-space-white : (b : ℕ) → isSpace b ≡ true → isWhite b ≡ true
-unfolding isWhite
-space-white b e = rw e refl
-
--- Another byte is plain.
-sign-or-space : (b : ℕ) → isWhite b ≡ true → isSign b ≡ false → isSpace b ≡ true
-unfolding isWhite
-sign-or-space b e d = pick (isSpace b) refl
-  where
-    pick : (t : Bool) → isSpace b ≡ t → isSpace b ≡ true
-    pick true h = h
-    pick false h = absurd (true≢false (sym e ∙ rw (h, d) refl))
+use Rattle.headers.specs.Refusing.{Refuses10, same-number, never-refused}
+use Rattle.headers.specs.ReadsSpace.{ReadsSpace}
 
 -- What is skipped at a byte.
 pub skip-white : (b : ℕ) (bytes : List ℕ) → isWhite b ≡ true → skip false (b ∷ bytes) ≡ skip (isSign b) bytes
@@ -66,7 +29,7 @@ unfolding skip
 skip-inside b bytes = refl
 
 -- The pieces of white space are skipped whole.
-remark-skipped : {text : List ℕ} (last : ℕ) (rest : List ℕ) → Each (λ b. not (isEnd b)) text → isEnd last ≡ true
+remark-skipped : {text : List ℕ} (last : ℕ) (rest : List ℕ) → Text text → isEnd last ≡ true
     → skip true ((text ++ (last ∷ [])) ++ rest) ≡ skip false rest
 remark-skipped last rest none e = skip-inside last rest ∙ rw e refl
 remark-skipped last rest (more {b} {bytes = text} h each) e =
@@ -93,24 +56,24 @@ pieces-white rest empty h = absurd (omega arith)
 pieces-white rest (follows {piece} {rest = s} p ps) h = rw (append-assoc piece s rest) (piece-white (s ++ rest) p)
 
 pub spaces-on : (bytes : List ℕ) → Starts isWhite bytes → spaces bytes ≡ skip false bytes
-unfolding spaces next
-spaces-on bytes (first {b} {bytes = rest} e) = ap (λ p. next p (λ _. skip false)) (ahead-passes isWhite b rest e)
+unfolding spaces
+spaces-on bytes (first {b} {bytes = rest} e) = rw (e, spaces) (sym (skip-white b rest e))
 
 pub spaces-off : (b : ℕ) (bytes : List ℕ) → isWhite b ≡ false → spaces (b ∷ bytes) ≡ bad
-unfolding spaces next
-spaces-off b bytes e = ap (λ p. next p (λ _. skip false)) (ahead-refuses isWhite b bytes e)
+unfolding spaces
+spaces-off b bytes e = rw (e, spaces) refl
 
 -- What is skipped is made of pieces; inside a remark its end stands before them.
 abbrev Skipped : Bool → List ℕ → List ℕ → Type 0
 Skipped false bytes rest = (s : List ℕ) × Pieces s × (bytes ≡ s ++ rest)
-Skipped true bytes rest = (text : List ℕ) × (last : ℕ) × (s : List ℕ) × Each (λ b. not (isEnd b)) text × (isEnd last ≡ true) × Pieces s × (bytes ≡ text ++ (last ∷ (s ++ rest)))
+Skipped true bytes rest = (text : List ℕ) × (last : ℕ) × (s : List ℕ) × Text text × (isEnd last ≡ true) × Pieces s × (bytes ≡ text ++ (last ∷ (s ++ rest)))
 
 first-piece : (b : ℕ) (bytes rest : List ℕ) → isWhite b ≡ true → Skipped (isSign b) bytes rest → (s : List ℕ) × White s × (b ∷ bytes ≡ s ++ rest)
 unfolding isSign
 first-piece b bytes rest h k = pick (isSign b) refl k
   where
     pick : (t : Bool) → isSign b ≡ t → Skipped t bytes rest → (s : List ℕ) × White s × (b ∷ bytes ≡ s ++ rest)
-    pick false d (s, ps, e) = (b ∷ s, record { some = omega arith; pieces = follows (plain b (sign-or-space b h d)) ps }, ap (λ (l : List ℕ). b ∷ l) e)
+    pick false d (s, ps, e) = (b ∷ s, record { some = omega arith; pieces = follows (plain b (white-not-sign b h d)) ps }, ap (λ (l : List ℕ). b ∷ l) e)
     pick true d (text, last, s, each, z, ps, e) =
         let sign : b ≡ 35 = eqb-true b 35 d in
         let same : ((text ++ (last ∷ [])) ++ s) ++ rest ≡ text ++ (last ∷ (s ++ rest)) =
@@ -137,7 +100,7 @@ skipped false (b ∷ bytes) rest e = pick (isWhite b) refl (λ d. skipped (isSig
         ([], empty, cc)
 
 spaces-taken : (bytes rest : List ℕ) → spaces bytes ≡ got tt rest → (s : List ℕ) × White s × (bytes ≡ s ++ rest)
-unfolding spaces ahead next
+unfolding spaces
 spaces-taken [] rest e = absurd (not-got e)
 spaces-taken (b ∷ bytes) rest e = pick (isWhite b) refl
   where
@@ -167,7 +130,12 @@ skip-10 false (b ∷ bytes) k e = pick (isWhite b) refl (λ d. skip-10 (isSign b
 
 spaces-10 : Refuses10 spaces
 unfolding spaces
-spaces-10 bytes k e = next-10 (ahead isWhite bytes) _ k (ahead-10 isWhite bytes) (λ _. skip-10 false) e
+spaces-10 [] k e = same-number e
+spaces-10 (b ∷ bytes) k e = pick (isWhite b) refl
+  where
+    pick : (t : Bool) → isWhite b ≡ t → k ≡ 10
+    pick true h = skip-10 false (b ∷ bytes) k (sym (spaces-on (b ∷ bytes) (first h)) ∙ e)
+    pick false h = same-number (sym (spaces-off b bytes h) ∙ e)
 
 pub reads-spaces : ReadsSpace spaces White
 reads-spaces = record { taken = spaces-taken; takes = spaces-takes; begins = λ s rest w. white-stops (pieces-white rest (w .pieces) (w .some)); refuses = spaces-10 }
