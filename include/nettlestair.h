@@ -48,6 +48,10 @@ struct nettlestair_picture {
     size_t length;
 };
 
+/* The location code of the pixel (x, y): the binary digits of y and x by turns, the lowest of x worth 1, the lowest of y 2. Every x
+   and y has one, so there is no number. */
+uint32_t nettlestair_code(uint16_t x, uint16_t y);
+
 /* The number of a block list of an image of side 2^n: 0 where it is accepted, else 1 to 7. */
 uint32_t nettlestair_check(uint32_t n, const uint32_t *codes, size_t codes_len, const uint8_t *levels, size_t levels_len,
                            const uint8_t *colours, size_t colours_len);

@@ -59,6 +59,8 @@ pub struct Picture {
 }
 
 extern "C" {
+    fn nettlestair_code(x: u16, y: u16) -> u32;
+
     fn nettlestair_check(
         n: u32,
         codes: *const u32,
@@ -151,6 +153,12 @@ extern "C" {
 
 // Each call is sound: a pointer comes with the length of its slice, and the borrow checker keeps a list that is written to
 // apart from every other.
+
+/// The location code of the pixel (x, y): the binary digits of y and x by turns, the lowest of x worth 1, the lowest of y 2. Every
+/// x and y has one, so there is no number.
+pub fn code(x: u16, y: u16) -> u32 {
+    unsafe { nettlestair_code(x, y) }
+}
 
 /// The number of a block list of an image of side 2^n: 0 where it is accepted, else 1 to 7.
 pub fn check(n: u32, codes: &[u32], levels: &[u8], colours: &[u8]) -> u32 {

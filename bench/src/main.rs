@@ -23,7 +23,8 @@ Times the proved library (target/staticlib/libexports.a) against a plain Rust im
 
   outlines   check, number and trace at n = 8, and how the time of trace grows from n = 4 to n = 8
   rasters    blocks_from_raster and raster_from_blocks, the same way
-  all        both (without MODE)
+  codes      a code for each pixel of 256 by 256
+  all        all of these (without MODE)
 
 The status is 1 if the answers of the two differ anywhere, else 0, whatever the times.
 ";
@@ -33,7 +34,8 @@ fn main() -> ExitCode {
     let reports: &[fn() -> bool] = match mode.as_str() {
         "outlines" => &[report::outlines],
         "rasters" => &[report::rasters],
-        "all" => &[report::outlines, report::rasters],
+        "codes" => &[report::codes],
+        "all" => &[report::outlines, report::rasters, report::codes],
         "help" | "--help" | "-h" => {
             print!("{HELP}");
             return ExitCode::SUCCESS;

@@ -2,7 +2,10 @@
 
 use crate::inputs::Inputs;
 use crate::pictures::KINDS;
-use crate::timing::{Times, SAMPLES};
+use crate::plain::spread_code;
+use crate::sides::{LIBRARY, PLAIN};
+use crate::timing::{compare, Times, SAMPLES};
+use std::hint::black_box;
 
 const GOAL_RATIO: f64 = 1.0;
 const DEFECT_RATIO: f64 = 1.5;
@@ -112,4 +115,27 @@ pub fn rasters() -> bool {
         equal &= same;
     }
     equal
+}
+
+/// A code for each pixel of 256 by 256, against a table that is a `static` and against the spreading that the library had before
+/// its table; each code is a call of its own. Says whether all answers were equal.
+pub fn codes() -> bool {
+    let pixels = || (0..=255).flat_map(|y| (0..=255).map(move |x| (x, y)));
+    let same =
+        pixels().all(|(x, y)| (LIBRARY.code)(x, y) == (PLAIN.code)(x, y) && (PLAIN.code)(x, y) == spread_code(x, y));
+    let all = |code: fn(u16, u16) -> u32| {
+        let code = black_box(code);
+        move || pixels().for_each(|(x, y)| drop(black_box(code(x, y))))
+    };
+    println!("\nA code for each pixel of 256 by 256, microseconds; the table of plain Rust is a static");
+    println!("{:<28} | {:^28} | {:^28} |", "", "static table", "former spreading");
+    println!("{:<28} | {HEADING} | {HEADING} | answers", "");
+    println!(
+        "{:<28} | {} | {} | {}",
+        "code",
+        columns(compare(all(LIBRARY.code), all(PLAIN.code))),
+        columns(compare(all(LIBRARY.code), all(spread_code))),
+        if same { "equal" } else { "DIFFERENT" }
+    );
+    same
 }

@@ -31,6 +31,7 @@ pub struct Lent<'a> {
 /// An implementation of document 01.
 #[allow(clippy::type_complexity)]
 pub struct Side {
+    pub code: fn(u16, u16) -> u32,
     pub check: fn(u32, Blocks) -> u32,
     pub number: fn(u32, Blocks, &mut [u32], &mut [u32]) -> Numbered,
     pub trace: fn(u32, Blocks, Lent) -> Traced,
@@ -39,6 +40,7 @@ pub struct Side {
 }
 
 pub const LIBRARY: Side = Side {
+    code: nettlestair::code,
     check: |n, blocks| nettlestair::check(n, blocks.codes, blocks.levels, blocks.colours),
     number: |n, blocks, labels, work| nettlestair::number(n, blocks.codes, blocks.levels, blocks.colours, labels, work),
     trace: |n, blocks, lent| {
@@ -53,6 +55,7 @@ pub const LIBRARY: Side = Side {
 };
 
 pub const PLAIN: Side = Side {
+    code: plain::code,
     check: plain::check,
     number: plain::number,
     trace: plain::trace,

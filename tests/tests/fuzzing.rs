@@ -9,7 +9,7 @@ use tests::compare::Shown;
 use tests::expected::{needs, Model};
 use tests::faults;
 use tests::lent::Entry;
-use tests::model::blocks::{number, paint, quadtree, Blocks};
+use tests::model::blocks::{location_code, number, paint, quadtree, Blocks};
 use tests::model::paths;
 use tests::model::pgm::{self, Read};
 use tests::nettlestair::{self, Picture, Stretch};
@@ -21,8 +21,9 @@ use tests::rasters;
 /// instead of 0, the answer is changed before it is compared, so that something differs.
 type Try = fn(random: &mut Random, wrong: u32) -> (u32, Option<String>);
 
-/// Each function with the numbers that it can answer; the stretch of a cycle has none.
-const FUNCTIONS: [(&str, Try, &[u32]); 9] = [
+/// Each function with the numbers that it can answer; a location code and the stretch of a cycle have none.
+const FUNCTIONS: [(&str, Try, &[u32]); 10] = [
+    ("fuzzing, codes", code, &[0]),
     ("fuzzing, check", check, &[0, 1, 2, 3, 4, 5, 6, 7]),
     ("fuzzing, raster to blocks", blocks_from_raster, &[0, 1, 8, 9]),
     ("fuzzing, blocks to raster", raster_from_blocks, &[0, 1, 2, 3, 4, 5, 6, 7, 8]),
@@ -108,6 +109,13 @@ fn block_list(random: &mut Random) -> (u32, Blocks) {
         faults::in_blocks(random, &mut blocks);
     }
     (n, blocks)
+}
+
+fn code(random: &mut Random, wrong: u32) -> (u32, Option<String>) {
+    let [x, y] = [0, 0].map(|_| (random.word() >> 16 >> random.below(16)) as u16);
+    let expected = location_code(u32::from(x), u32::from(y));
+    let found = nettlestair::code(x, y) ^ wrong;
+    (0, (expected != found).then(|| format!("({x}, {y}): expected {expected}, found {found}")))
 }
 
 fn check(random: &mut Random, wrong: u32) -> (u32, Option<String>) {

@@ -45,17 +45,17 @@ fn faults_of_proofs(cell: &str) -> Vec<String> {
     faults
 }
 
-/// Functions are `crate::function` or names of the C interface.
+/// Functions are `crate::function`, `crate::module::function` or names of the C interface.
 fn faults_of_functions(cell: &str) -> Vec<String> {
     let missing = |word: &&str| {
-        let (library, name) = word.split_once("::").unwrap_or(("exports", word));
+        let (path, name) = word.rsplit_once("::").unwrap_or(("exports", word));
+        let (library, module) = path.split_once("::").unwrap_or((path, "lib"));
         let head = match library {
             "exports" => format!("pub extern \"C\" fn {name}"),
             _ => format!("pub fn {name}"),
         };
         let has = |text: String| text.split(&head).skip(1).any(|rest| rest.starts_with(['(', '<']));
-        let sources = files(&repository("crates").join(library).join("src"));
-        !sources.iter().any(|path| fs::read_to_string(path).is_ok_and(has))
+        !fs::read_to_string(repository(&format!("crates/{library}/src/{module}.rt"))).is_ok_and(has)
     };
     let functions = quoted(cell).into_iter().filter(|word| word.contains("::") || word.starts_with("nettlestair_"));
     functions.filter(missing).map(|word| format!("{word} is no public function")).collect()
@@ -109,6 +109,7 @@ fn what_is_not_there_is_seen() {
         format!("| a | theorem `no-such-law` in {file} | – | – | b |"),
         "| a | `number` | – | – | b |".to_string(),
         "| a | – | `blocks::chuck` | – | b |".to_string(),
+        "| a | – | `location::spreads` | – | b |".to_string(),
         "| a | – | `nettlestair_chuck` | – | b |".to_string(),
         "| a | – | – | `no_such.edit` | b |".to_string(),
         "| a | – | – | b |".to_string(),

@@ -9,6 +9,7 @@ pub mod outlines;
 pub mod regions;
 
 pub use blocks::{blocks_from_raster, check, raster_from_blocks};
+pub use location::{code, spread_code};
 pub use outlines::trace;
 pub use regions::number;
 

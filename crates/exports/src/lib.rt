@@ -1,6 +1,7 @@
 // The functions of the libraries under C names, for the tests and for programs in C and Rust (include/nettlestair.h).
 // Each hands its arguments on and carries the library's promise.
 ghost use mathlib.Core.Path.{_≡_};
+ghost use Rattle.interleaving.specs.Codes.{code};
 ghost use Rattle.quadtree.specs.Number.{number};
 ghost use Rattle.merging.specs.Promise.{FromRaster};
 ghost use Rattle.painting.specs.Promise.{ToRaster};
@@ -49,6 +50,13 @@ pub struct Picture {
     pub maxval: u32,
     pub start: usize,
     pub length: usize,
+}
+
+#[no_mangle]
+pub extern "C" fn nettlestair_code(x: u16, y: u16) -> u32
+    ensures { λ r. ⌜ r ≡ code 16 x y ⌝ }
+{
+    location::code(x, y)
 }
 
 #[no_mangle]

@@ -2,6 +2,7 @@
 pub mod Codes
 pub mod Interleaving
 pub mod Splitting
+pub mod Spreads
 pub mod Spreading
 pub mod Gathering
 pub mod Parting

@@ -3,40 +3,46 @@ use mathlib.Core.Path.{_≡_, refl, sym, ap, ap₂, _∙_}
 use Prim.Native.Nat.{ℕ, zero, suc, _+_, _*_, _/_, _%_, _^_, _<_}
 use native.Mathlib.Omega.{arith}
 use lib.Bits.{bitAnd, and-zero-r}
-use Rattle.interleaving.specs.Codes.{code, column, row}
+use Rattle.interleaving.specs.Codes.{column, row}
 use Rattle.interleaving.specs.Interleaving.{column-below}
-use Rattle.interleaving.specs.Splitting.{code-low}
-use Rattle.interleaving.specs.Spreading.{spread-halves, row-is-column-of-half}
+use Rattle.interleaving.specs.Spreads.{spread}
+use Rattle.interleaving.specs.Spreading.{spread-low, spread-split}
 use Rattle.interleaving.specs.Gathering.{mask, groups, low-field}
 
--- The even places of a code hold the digits of its column.
-even-places : (m c : ℕ) → bitAnd c (mask 1 m) ≡ code m (column m c) 0
-unfolding mask code column
+-- The even places of a code hold the digits of its column, and the odd places are the even ones of its half.
+even-places : (m c : ℕ) → bitAnd c (mask 1 m) ≡ spread m (column m c)
+unfolding mask spread column
 even-places zero c = and-zero-r c
 even-places (suc m) c =
     let d : (c % 2 + 2 * column m (c / 4)) / 2 ≡ column m (c / 4) = omega arith in
     low-field 1 c (mask 1 m) ∙ rw (even-places m (c / 4), d) (omega arith)
 
+row-is-column-of-half : (k c : ℕ) → row k c ≡ column k (c / 2)
+unfolding column row
+row-is-column-of-half zero c = refl
+row-is-column-of-half (suc k) c =
+    let e : c / 4 / 2 ≡ c / 2 / 4 = omega arith in
+    ap (λ (d : ℕ). c / 2 % 2 + 2 * d) (row-is-column-of-half k (c / 4) ∙ ap (column k) e)
+
 -- A spread number has its digits in groups of one.
-spread-is-groups : (m x : ℕ) → code m x 0 ≡ groups 1 m x
-unfolding code groups
+spread-is-groups : (m x : ℕ) → spread m x ≡ groups 1 m x
+unfolding spread groups
 spread-is-groups zero x = refl
 spread-is-groups (suc m) x = omega (arith, spread-is-groups m (x / 2))
 
 -- Two spread numbers of 8 digits, in the two halves of a word.
-two-spreads : (x y : ℕ) → x < 256 → code 8 x 0 + 65536 * code 8 y 0 ≡ groups 1 16 (x + 256 * y)
+two-spreads : (x y : ℕ) → x < 256 → spread 8 x + 65536 * spread 8 y ≡ groups 1 16 (x + 256 * y)
 two-spreads x y h =
     let low-digits : (x + 256 * y) % 256 ≡ x = omega arith in
     let high-digits : (x + 256 * y) / 256 ≡ y = omega arith in
-    let low-half : code 8 (x + 256 * y) 0 ≡ code 8 x 0 = sym (code-low 8 (x + 256 * y) 0) ∙ ap (λ (n : ℕ). code 8 n 0) low-digits in
-    let high-half : code 8 ((x + 256 * y) / 256) 0 ≡ code 8 y 0 = ap (λ (n : ℕ). code 8 n 0) high-digits in
-    let halves : code 16 (x + 256 * y) 0 ≡ code 8 (x + 256 * y) 0 + 65536 * code 8 ((x + 256 * y) / 256) 0 = spread-halves 8 (x + 256 * y) in
-    omega (arith, low-half, high-half, halves) ∙ spread-is-groups 16 (x + 256 * y)
+    let low-half : spread 8 (x + 256 * y) ≡ spread 8 x = sym (spread-low 8 (x + 256 * y)) ∙ ap (spread 8) low-digits in
+    let high-half : spread 8 ((x + 256 * y) / 256) ≡ spread 8 y = ap (spread 8) high-digits in
+    omega (arith, low-half, high-half, spread-split 8 8 (x + 256 * y)) ∙ spread-is-groups 16 (x + 256 * y)
 
 -- The digits of x and of y one by one: the even places of a code and those of its half.
 pub digits-parted : (c : ℕ) → bitAnd c (mask 1 8) + 65536 * bitAnd (c / 2) (mask 1 8) ≡ groups 1 16 (column 8 c + 256 * row 8 c)
 digits-parted c =
-    let y-digits = even-places 8 (c / 2) ∙ ap (λ (y : ℕ). code 8 y 0) (sym (row-is-column-of-half 8 c)) in
+    let y-digits = even-places 8 (c / 2) ∙ ap (spread 8) (sym (row-is-column-of-half 8 c)) in
     ap₂ (λ (a b : ℕ). a + 65536 * b) (even-places 8 c) y-digits ∙ two-spreads (column 8 c) (row 8 c) (column-below 8 c)
 
 -- Four groups of four digits, one by one.

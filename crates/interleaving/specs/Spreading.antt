@@ -1,35 +1,56 @@
--- Digits of one coordinate alone: x spread to the even places of a code, and the digits of a code in its even or its odd places.
-use mathlib.Core.Path.{_≡_, refl, ap, _∙_}
+-- Laws of spread numbers: codes from the spread numbers of x and of y, and from the table of them.
+use mathlib.Core.Path.{_≡_, refl, sym, ap, ap₂, _∙_}
+use mathlib.Core.List.{List}
 use Prim.Native.Nat.{ℕ, zero, suc, _+_, _*_, _/_, _%_, _^_, _<_}
-use native.Mathlib.Nat.{zero-div}
+use native.Mathlib.Nat.{zero-div, zero-mod}
 use native.Mathlib.Omega.{arith}
-use Rattle.interleaving.specs.Codes.{code, column, row}
-use Rattle.interleaving.specs.Splitting.{code-split}
+use lib.ListN.{getD}
+use Rattle.sequences.specs.Ranges.{tabulate-at}
+use Rattle.interleaving.specs.Codes.{code}
+use Rattle.interleaving.specs.Splitting.{code-split, code-low}
+use Rattle.interleaving.specs.Spreads.{spread, spreads}
 
 -- The code of (x, y) is x spread to the even places and y to the odd ones.
-pub code-from-spreads : (k x y : ℕ) → code k x y ≡ code k x 0 + 2 * code k y 0
-unfolding code
+pub code-from-spreads : (k x y : ℕ) → code k x y ≡ spread k x + 2 * spread k y
+unfolding code spread
 code-from-spreads zero x y = refl
 code-from-spreads (suc k) x y = omega (arith, code-from-spreads k (x / 2) (y / 2))
 
+-- So a spread number is the code of a pixel of the north row, and what holds of codes holds of it.
+spread-is-code : (k x : ℕ) → spread k x ≡ code k x 0
+unfolding code spread
+spread-is-code zero x = refl
+spread-is-code (suc k) x = omega (arith, spread-is-code k (x / 2))
+
 -- A spread number leaves room for another in the odd places.
-pub spread-below : (k x : ℕ) → 3 * code k x 0 < 4 ^ k
-unfolding code
+pub spread-below : (k x : ℕ) → 3 * spread k x < 4 ^ k
+unfolding spread
 spread-below zero x = omega arith
 spread-below (suc k) x = omega (arith, spread-below k (x / 2))
 
--- Twice as many digits are spread in two halves.
-pub spread-halves : (l x : ℕ) → code (l + l) x 0 ≡ code l x 0 + 4 ^ l * code l (x / 2 ^ l) 0
-spread-halves l x = code-split l l x 0 ∙ ap (λ (y : ℕ). code l x 0 + 4 ^ l * code l (x / 2 ^ l) y) (zero-div (2 ^ l))
+-- Only its l low digits count among l digits.
+pub spread-low : (l x : ℕ) → spread l (x % 2 ^ l) ≡ spread l x
+spread-low l x =
+    spread-is-code l (x % 2 ^ l) ∙ ap (code l (x % 2 ^ l)) (sym (zero-mod (2 ^ l))) ∙ code-low l x 0 ∙ sym (spread-is-code l x)
 
-pub spread-two : (x : ℕ) → code 2 x 0 ≡ x % 2 + 4 * (x / 2 % 2)
-unfolding code
-spread-two x = omega arith
+-- More digits are spread in two parts.
+pub spread-split : (l m x : ℕ) → spread (l + m) x ≡ spread l x + 4 ^ l * spread m (x / 2 ^ l)
+spread-split l m x =
+    spread-is-code (l + m) x ∙ code-split l m x 0
+    ∙ ap₂ (λ (a b : ℕ). a + 4 ^ l * b) (sym (spread-is-code l x)) (ap (code m (x / 2 ^ l)) (zero-div (2 ^ l)) ∙ sym (spread-is-code m (x / 2 ^ l)))
 
--- The odd places of a code are the even ones of its half.
-pub row-is-column-of-half : (k c : ℕ) → row k c ≡ column k (c / 2)
-unfolding column row
-row-is-column-of-half zero c = refl
-row-is-column-of-half (suc k) c =
-    let e : c / 4 / 2 ≡ c / 2 / 4 = omega arith in
-    ap (λ (d : ℕ). c / 2 % 2 + 2 * d) (row-is-column-of-half k (c / 4) ∙ ap (column k) e)
+-- "entry i being i with a zero digit put above each of its binary digits" (document 02, g): the rule of the whole table, carried to
+-- each entry by its index.
+pub entry-is-spread : (table : List ℕ) → table ≡ spreads → (i : ℕ) → i < 256 → getD table i 0 ≡ spread 8 i
+unfolding spreads
+entry-is-spread table rule i h = ap (λ (l : List ℕ). getD l i 0) rule ∙ tabulate-at 256 (spread 8) i h
+
+pub entry-below : (table : List ℕ) → table ≡ spreads → (i : ℕ) → i < 256 → 3 * getD table i 0 < 65536
+entry-below table rule i h = omega (arith, entry-is-spread table rule i h, spread-below 8 i)
+
+pub code-of-entries : (table : List ℕ) → table ≡ spreads → (x y : ℕ) → x < 256 → y < 256 → getD table x 0 + 2 * getD table y 0 ≡ code 8 x y
+code-of-entries table rule x y hx hy = omega (arith, entry-is-spread table rule x hx, entry-is-spread table rule y hy, code-from-spreads 8 x y)
+
+-- The code of two numbers of two bytes each, from those of their low and of their high bytes.
+pub code-of-bytes : (x y : ℕ) → code 16 x y ≡ code 8 (x % 256) (y % 256) + 65536 * code 8 (x / 256) (y / 256)
+code-of-bytes x y = omega (arith, code-split 8 8 x y, code-low 8 x y)

@@ -1,32 +1,26 @@
-// The binary digits of location codes: those of x spread, and those of x and y gathered from a code.
+// The binary digits of location codes: those of x and y interleaved, by a table of spread numbers, and gathered from a code.
 ghost use mathlib.Core.Path.{_≡_};
 ghost use Prim.Native.Nat.{_+_, _*_, _/_, _%_, _^_};
 ghost use Rattle.interleaving.specs.Codes.{code, column, row};
+ghost use Rattle.interleaving.specs.Spreads.{spreads};
 ghost use Rattle.interleaving.specs.Gathering.{groups};
 
-// The two low binary digits of x, spread: a 0 stands after each. So the 4, 8 and 16 low ones, from two halves.
-fn spread2(x: u32) -> u32
-    ensures { λ r. ⌜ r ≡ code 2 x 0 ⌝ }
+// The code of two bytes: the spread number of x, and twice that of y.
+fn code8(table: &[u16; 256], x: u8, y: u8) -> u32
+    requires { ⌜ now table ≡ spreads ⌝ }
+    ensures { λ r. ⌜ r ≡ code 8 x y ⌝ }
 {
-    x % 2 + 4 * (x / 2 % 2)
+    table[x as usize] as u32 + 2 * table[y as usize] as u32
 }
 
-fn spread4(x: u32) -> u32
-    ensures { λ r. ⌜ r ≡ code 4 x 0 ⌝ }
+// The code of the pixel (x, y), from the table of the 256 spread numbers: low bytes, then high bytes. The table is lent, so that a
+// loop over many pixels builds it once.
+pub fn code_from(table: &[u16; 256], x: u16, y: u16) -> u32
+    requires { ⌜ now table ≡ spreads ⌝ }
+    ensures { λ r. ⌜ r ≡ code 16 x y ⌝ }
 {
-    spread2(x) + 16 * spread2(x / 4)
-}
-
-fn spread8(x: u32) -> u32
-    ensures { λ r. ⌜ r ≡ code 8 x 0 ⌝ }
-{
-    spread4(x) + 256 * spread4(x / 16)
-}
-
-pub fn spread16(x: u32) -> u32
-    ensures { λ r. ⌜ r ≡ code 16 x 0 ⌝ }
-{
-    spread8(x) + 65536 * spread8(x / 256)
+    code8(table, (x % 256) as u8, (y % 256) as u8)
+        + 65536 * code8(table, (x / 256) as u8, (y / 256) as u8)
 }
 
 // The first 8 digits of x and of y, worked out together, x in the low half of the word and y in the high half: first one by one in

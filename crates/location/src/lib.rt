@@ -1,7 +1,10 @@
 // Location codes and levels: the arithmetic of section 2's quadrants, below everything that knows blocks.
+pub mod table;
+
+use interleaving::code_from;
 use interleaving::column8;
 use interleaving::row8;
-use interleaving::spread16;
+use table::spreads;
 ghost use mathlib.Core.Path.{_≡_};
 ghost use Rattle.interleaving.specs.Codes.{code, column, row};
 ghost use Rattle.location.specs.Levels.{sideOf, pixelsOf, alignment, topLevel};
@@ -11,7 +14,8 @@ ghost use Rattle.location.specs.Places.{placeOf};
 pub fn code(x: u16, y: u16) -> u32
     ensures { λ r. ⌜ r ≡ code 16 x y ⌝ }
 {
-    spread16(x as u32) + 2 * spread16(y as u32)
+    let table = spreads();
+    code_from(&table, x, y)
 }
 
 // x of the pixel with code c.
