@@ -1,5 +1,5 @@
-//! The location code of a pixel, against the model's digits one by one: every pixel of an image, every byte of x and of y alone,
-//! coordinates next to the ends of a byte, and random ones.
+//! The location code of a pixel, against the model's digits one by one: every pixel of an image, every x and every y, coordinates
+//! next to the ends of a byte, and random ones.
 
 use tests::cases::Cases;
 use tests::model::blocks::location_code;

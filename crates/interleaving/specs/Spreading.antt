@@ -5,8 +5,10 @@ use Prim.Native.Nat.{ℕ, zero, suc, _+_, _*_, _/_, _%_, _^_, _<_}
 use native.Mathlib.Nat.{zero-div, zero-mod}
 use native.Mathlib.Omega.{arith}
 use lib.ListN.{getD}
+use Rattle.sequences.specs.Powers.{pow2-pos}
 use Rattle.sequences.specs.Ranges.{tabulate-at}
-use Rattle.interleaving.specs.Codes.{code}
+use Rattle.interleaving.specs.Codes.{code, column, row}
+use Rattle.interleaving.specs.Interleaving.{column-of-code, row-of-code}
 use Rattle.interleaving.specs.Splitting.{code-split, code-low}
 use Rattle.interleaving.specs.Spreads.{spread, spreads}
 
@@ -21,6 +23,10 @@ spread-is-code : (k x : ℕ) → spread k x ≡ code k x 0
 unfolding code spread
 spread-is-code zero x = refl
 spread-is-code (suc k) x = omega (arith, spread-is-code k (x / 2))
+
+-- It has the digits of its number in the even places, and zeros in the odd ones.
+pub digits-of-spread : (k i : ℕ) → i < 2 ^ k → (column k (spread k i) ≡ i) × (row k (spread k i) ≡ 0)
+digits-of-spread k i h = rw (spread-is-code k i) (column-of-code k i 0 h, row-of-code k i 0 (pow2-pos k))
 
 -- A spread number leaves room for another in the odd places.
 pub spread-below : (k x : ℕ) → 3 * spread k x < 4 ^ k
