@@ -21,7 +21,9 @@ int main(void) {
     uint8_t l[16], k[16], r[17];
     memset(r, 99, sizeof r);
 
-    expect("code", nettlestair_code(3, 5) == 39 && nettlestair_code(65535, 0) == 0x55555555);
+    expect("code", nettlestair_code(3, 5) == 39);
+    expect("code, all digits of x", nettlestair_code(65535, 0) == 0x55555555);
+    expect("code, all digits of y", nettlestair_code(0, 65535) == 0xAAAAAAAA);
 
     expect("check", nettlestair_check(2, codes, 7, levels, 7, colours, 7) == 0);
     expect("check, lists of unlike lengths", nettlestair_check(2, codes, 7, levels, 6, colours, 7) == 2);

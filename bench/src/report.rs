@@ -125,7 +125,11 @@ pub fn codes() -> bool {
         pixels().all(|(x, y)| (LIBRARY.code)(x, y) == (PLAIN.code)(x, y) && (PLAIN.code)(x, y) == spread_code(x, y));
     let all = |code: fn(u16, u16) -> u32| {
         let code = black_box(code);
-        move || pixels().for_each(|(x, y)| drop(black_box(code(x, y))))
+        move || {
+            for (x, y) in pixels() {
+                black_box(code(x, y));
+            }
+        }
     };
     println!("\nA code for each pixel of 256 by 256, microseconds; the table of plain Rust is a static");
     println!("{:<28} | {:^28} | {:^28} |", "", "static table", "former spreading");

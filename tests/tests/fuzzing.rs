@@ -111,6 +111,7 @@ fn block_list(random: &mut Random) -> (u32, Blocks) {
     (n, blocks)
 }
 
+/// Coordinates of 1 to 16 digits.
 fn code(random: &mut Random, wrong: u32) -> (u32, Option<String>) {
     let [x, y] = [0, 0].map(|_| (random.word() >> 16 >> random.below(16)) as u16);
     let expected = location_code(u32::from(x), u32::from(y));

@@ -9,7 +9,7 @@ use Rattle.interleaving.specs.Spreads.{spread}
 use Rattle.interleaving.specs.Spreading.{spread-low, spread-split}
 use Rattle.interleaving.specs.Gathering.{mask, groups, low-field}
 
--- The even places of a code hold the digits of its column, and the odd places are the even ones of its half.
+-- The even places of a code hold the digits of its column.
 even-places : (m c : ℕ) → bitAnd c (mask 1 m) ≡ spread m (column m c)
 unfolding mask spread column
 even-places zero c = and-zero-r c
@@ -17,6 +17,7 @@ even-places (suc m) c =
     let d : (c % 2 + 2 * column m (c / 4)) / 2 ≡ column m (c / 4) = omega arith in
     low-field 1 c (mask 1 m) ∙ rw (even-places m (c / 4), d) (omega arith)
 
+-- The odd places of a code are the even ones of its half.
 row-is-column-of-half : (k c : ℕ) → row k c ≡ column k (c / 2)
 unfolding column row
 row-is-column-of-half zero c = refl

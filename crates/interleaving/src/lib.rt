@@ -14,8 +14,8 @@ fn code8(table: &[u16; 256], x: u8, y: u8) -> u32
 }
 
 // The code of the pixel (x, y), from the table of the 256 spread numbers: low bytes, then high bytes. The table is lent, so that a
-// loop over many pixels builds it once.
-pub fn code_from(table: &[u16; 256], x: u16, y: u16) -> u32
+// loop over many pixels can build it once.
+pub fn code_by_table(table: &[u16; 256], x: u16, y: u16) -> u32
     requires { ⌜ now table ≡ spreads ⌝ }
     ensures { λ r. ⌜ r ≡ code 16 x y ⌝ }
 {

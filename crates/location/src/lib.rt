@@ -1,7 +1,7 @@
 // Location codes and levels: the arithmetic of section 2's quadrants, below everything that knows blocks.
 pub mod table;
 
-use interleaving::code_from;
+use interleaving::code_by_table;
 use interleaving::column8;
 use interleaving::row8;
 use table::spreads;
@@ -15,7 +15,7 @@ pub fn code(x: u16, y: u16) -> u32
     ensures { λ r. ⌜ r ≡ code 16 x y ⌝ }
 {
     let table = spreads();
-    code_from(&table, x, y)
+    code_by_table(&table, x, y)
 }
 
 // x of the pixel with code c.

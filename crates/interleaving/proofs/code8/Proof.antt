@@ -1,7 +1,7 @@
 -- Both entries are spread numbers: each is below a third of 4 ^ 8, so the sum fits, and it is the code.
 use borrow.Author.Needs.{needs}
 use native.Mathlib.Omega.{arith}
-use Rattle.interleaving.specs.Spreading.{entry-below, code-of-entries}
+use Rattle.interleaving.specs.Spreading.{entries-below, code-of-entries}
 use Rattle.interleaving.proofs.code8.Statement.{statement}
 use Rattle.interleaving.proofs.code8.Tie as tie
 
@@ -12,7 +12,9 @@ element-copy-out-result : tie.Need-element-copy-out-result
 element-copy-out-result c = search needs
 
 cast-result : tie.Need-cast-result
-cast-result c = omega (arith, entry-below (c .before .args .table .now) (c .before .pre) (c .before .args .x) (search needs))
+cast-result c =
+    let a = c .before in
+    omega (arith, entries-below (a .args .table .now) (a .pre) (a .args .x) (a .args .y) (search needs) (search needs))
 
 mul-result-2 : tie.Need-mul-result-2
 mul-result-2 c = search needs
@@ -21,19 +23,24 @@ element-copy-out-result-2 : tie.Need-element-copy-out-result-2
 element-copy-out-result-2 c = search needs
 
 cast-result-2 : tie.Need-cast-result-2
-cast-result-2 c = let a = c .before .before in omega (arith, entry-below (a .args .table .now) (a .pre) (a .args .y) (search needs))
+cast-result-2 c =
+    let a = c .before .before in
+    omega (arith, entries-below (a .args .table .now) (a .pre) (a .args .x) (a .args .y) (search needs) (search needs))
 
 mul-result-3 : tie.Need-mul-result-3
-mul-result-3 c = let a = c .before .before in omega (arith, entry-below (a .args .table .now) (a .pre) (a .args .y) (search needs))
+mul-result-3 c =
+    let a = c .before .before in
+    omega (arith, entries-below (a .args .table .now) (a .pre) (a .args .x) (a .args .y) (search needs) (search needs))
 
 add-result : tie.Need-add-result
 add-result c =
     let a = c .before .before in
-    let below = entry-below (a .args .table .now) (a .pre) in
-    omega (arith, below (a .args .x) (search needs), below (a .args .y) (search needs))
+    omega (arith, entries-below (a .args .table .now) (a .pre) (a .args .x) (a .args .y) (search needs) (search needs))
 
 returns : tie.Need-returns
-returns c = let a = c .before .before in code-of-entries (a .args .table .now) (a .pre) (a .args .x) (a .args .y) (search needs) (search needs)
+returns c =
+    let a = c .before .before in
+    code-of-entries (a .args .table .now) (a .pre) (a .args .x) (a .args .y) (search needs) (search needs)
 
 pub code8-spec : {M : Type 1} → statement M
 code8-spec =
