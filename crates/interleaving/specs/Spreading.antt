@@ -51,16 +51,6 @@ pub entry-is-spread : (table : List ℕ) → table ≡ spreads → (i : ℕ) →
 unfolding spreads
 entry-is-spread table rule i h = ap (λ (l : List ℕ). getD l i 0) rule ∙ tabulate-at 256 (spread 8) i h
 
--- Two entries: each is below a third of 65,536, and they make the code of two bytes.
-pub entries-below : (table : List ℕ) → table ≡ spreads → (x y : ℕ) → x < 256 → y < 256 → (3 * getD table x 0 < 65536) × (3 * getD table y 0 < 65536)
-entries-below table rule x y hx hy = (below x hx, below y hy)
-  where
-    below : (i : ℕ) → i < 256 → 3 * getD table i 0 < 65536
-    below i h = omega (arith, entry-is-spread table rule i h, spread-below 8 i)
-
-pub code-of-entries : (table : List ℕ) → table ≡ spreads → (x y : ℕ) → x < 256 → y < 256 → getD table x 0 + 2 * getD table y 0 ≡ code 8 x y
-code-of-entries table rule x y hx hy = omega (arith, entry-is-spread table rule x hx, entry-is-spread table rule y hy, code-from-spreads 8 x y)
-
 -- The code of two numbers of two bytes each, from those of their low and of their high bytes.
 pub code-of-bytes : (x y : ℕ) → code 16 x y ≡ code 8 (x % 256) (y % 256) + 65536 * code 8 (x / 256) (y / 256)
 code-of-bytes x y = omega (arith, code-split 8 8 x y, code-low 8 x y)

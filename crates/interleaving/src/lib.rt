@@ -2,15 +2,23 @@
 ghost use mathlib.Core.Path.{_≡_};
 ghost use Prim.Native.Nat.{_+_, _*_, _/_, _%_, _^_};
 ghost use Rattle.interleaving.specs.Codes.{code, column, row};
-ghost use Rattle.interleaving.specs.Spreads.{spreads};
+ghost use Rattle.interleaving.specs.Spreads.{spread, spreads};
 ghost use Rattle.interleaving.specs.Gathering.{groups};
 
-// The code of two bytes: the spread number of x, and twice that of y.
+// The spread number of a byte: its entry of the table.
+fn spread_of(table: &[u16; 256], i: u8) -> u32
+    requires { ⌜ now table ≡ spreads ⌝ }
+    ensures { λ r. ⌜ r ≡ spread 8 i ⌝ }
+{
+    table[i as usize] as u32
+}
+
+// The code of two bytes.
 fn code8(table: &[u16; 256], x: u8, y: u8) -> u32
     requires { ⌜ now table ≡ spreads ⌝ }
     ensures { λ r. ⌜ r ≡ code 8 x y ⌝ }
 {
-    table[x as usize] as u32 + 2 * table[y as usize] as u32
+    spread_of(table, x) + 2 * spread_of(table, y)
 }
 
 // The code of the pixel (x, y), from the table of the 256 spread numbers: low bytes, then high bytes. The table is lent, so that a

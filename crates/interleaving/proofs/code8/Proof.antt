@@ -1,57 +1,24 @@
--- Both entries are spread numbers: each is below a third of 4 ^ 8, so the sum fits, and it is the code.
+-- x goes to the even places and y to the odd ones. The sum fits, since a spread number is below a third of 4 ^ 8.
 use borrow.Author.Needs.{needs}
 use native.Mathlib.Omega.{arith}
-use Rattle.interleaving.specs.Spreading.{entries-below, code-of-entries}
+use Rattle.interleaving.specs.Spreading.{code-from-spreads, spread-below}
 use Rattle.interleaving.proofs.code8.Statement.{statement}
 use Rattle.interleaving.proofs.code8.Tie as tie
 
+spread-of-requires : tie.Need-spread-of-requires
+spread-of-requires c κs = search needs
+
+spread-of-requires-2 : tie.Need-spread-of-requires-2
+spread-of-requires-2 c κs = search needs
+
 mul-result : tie.Need-mul-result
-mul-result c = search needs
-
-element-copy-out-result : tie.Need-element-copy-out-result
-element-copy-out-result c = search needs
-
-cast-result : tie.Need-cast-result
-cast-result c =
-    let a = c .before in
-    omega (arith, entries-below (a .args .table .now) (a .pre) (a .args .x) (a .args .y) (search needs) (search needs))
-
-mul-result-2 : tie.Need-mul-result-2
-mul-result-2 c = search needs
-
-element-copy-out-result-2 : tie.Need-element-copy-out-result-2
-element-copy-out-result-2 c = search needs
-
-cast-result-2 : tie.Need-cast-result-2
-cast-result-2 c =
-    let a = c .before .before in
-    omega (arith, entries-below (a .args .table .now) (a .pre) (a .args .x) (a .args .y) (search needs) (search needs))
-
-mul-result-3 : tie.Need-mul-result-3
-mul-result-3 c =
-    let a = c .before .before in
-    omega (arith, entries-below (a .args .table .now) (a .pre) (a .args .x) (a .args .y) (search needs) (search needs))
+mul-result c = let a = c .before .before .args in omega (arith, spread-below 8 (a .x), spread-below 8 (a .y))
 
 add-result : tie.Need-add-result
-add-result c =
-    let a = c .before .before in
-    omega (arith, entries-below (a .args .table .now) (a .pre) (a .args .x) (a .args .y) (search needs) (search needs))
+add-result c = let a = c .before .before .args in omega (arith, spread-below 8 (a .x), spread-below 8 (a .y))
 
 returns : tie.Need-returns
-returns c =
-    let a = c .before .before in
-    code-of-entries (a .args .table .now) (a .pre) (a .args .x) (a .args .y) (search needs) (search needs)
+returns c = let a = c .before .before .args in omega (arith, code-from-spreads 8 (a .x) (a .y))
 
 pub code8-spec : {M : Type 1} → statement M
-code8-spec =
-    tie.close
-    (tie.spec
-    mul-result
-    element-copy-out-result
-    cast-result
-    mul-result-2
-    element-copy-out-result-2
-    cast-result-2
-    mul-result-3
-    add-result
-    returns)
+code8-spec = tie.close (tie.spec spread-of-requires spread-of-requires-2 mul-result add-result returns)
