@@ -16,7 +16,8 @@
 #define WHOLE 65536
 
 static uint32_t codes[WHOLE], labels[WHOLE], work[2 * WHOLE], owners[WHOLE], ends[WHOLE], corners[4 * WHOLE];
-static uint8_t levels[WHOLE], colours[WHOLE], text[9 + 4 * 4 * WHOLE];
+static uint16_t raster[WHOLE], colours[WHOLE];
+static uint8_t levels[WHOLE], text[9 + 4 * 4 * WHOLE];
 
 /* Prints the line of a refusal; the status of the program. */
 static int refused(uint32_t number) {
@@ -26,14 +27,14 @@ static int refused(uint32_t number) {
 
 /* Prints the lines for the bytes of a picture; the status of the program. */
 static int outlines(const uint8_t *bytes, size_t length) {
-    struct nettlestair_picture picture = nettlestair_read_pgm(bytes, length);
+    struct nettlestair_picture picture = nettlestair_read_pgm(bytes, length, raster, WHOLE);
     if (picture.number != 0)
         return refused(picture.number);
 
     /* the raster as blocks */
     uint32_t n = picture.n;
-    struct nettlestair_written merged = nettlestair_blocks_from_raster(n, bytes + picture.start, picture.length, codes, WHOLE,
-                                                                       levels, WHOLE, colours, WHOLE);
+    struct nettlestair_written merged =
+        nettlestair_blocks_from_raster(n, raster, picture.count, codes, WHOLE, levels, WHOLE, colours, WHOLE);
     if (merged.number != 0)
         return refused(merged.number);
 

@@ -13,12 +13,16 @@ use std::io::Write;
 use std::process::ExitCode;
 use std::{env, fs, io};
 
+/// The pixels of the largest picture.
+const LARGEST: usize = 65_536;
+
 /// The lines for the bytes of a picture, or the number with which the library refuses it.
 fn outlines(bytes: &[u8]) -> Result<Vec<u8>, u32> {
-    let picture = nettlestair::read_pgm(bytes);
+    let mut raster = vec![0; LARGEST];
+    let picture = nettlestair::read_pgm(bytes, &mut raster);
     accepted(picture.number)?;
-    let (n, raster) = (picture.n, picture.raster.of(bytes));
-    let whole = raster.len();
+    let (n, whole) = (picture.n, picture.count as usize);
+    let raster = &raster[..whole];
 
     // the raster as blocks
     let (mut codes, mut levels, mut colours) = (vec![0; whole], vec![0; whole], vec![0; whole]);

@@ -39,13 +39,12 @@ struct nettlestair_stretch {
     size_t length;
 };
 
-/* What a picture is: its number, and on acceptance n, maxval and the part of the bytes that is the raster. */
+/* What a picture is: its number, and on acceptance n, maxval and how many samples it has, which is 4^n. */
 struct nettlestair_picture {
     uint32_t number;
     uint32_t n;
     uint32_t maxval;
-    size_t start;
-    size_t length;
+    uint32_t count;
 };
 
 /* The location code of the pixel (x, y): the binary digits of y and x by turns, the lowest of x worth 1, the lowest of y 2. Every x
@@ -54,31 +53,31 @@ uint32_t nettlestair_code(uint16_t x, uint16_t y);
 
 /* The number of a block list of an image of side 2^n: 0 where it is accepted, else 1 to 7. */
 uint32_t nettlestair_check(uint32_t n, const uint32_t *codes, size_t codes_len, const uint8_t *levels, size_t levels_len,
-                           const uint8_t *colours, size_t colours_len);
+                           const uint16_t *colours, size_t colours_len);
 
 /* The merged block list of a raster (row by row, north row first) of 4^n entries: 0, or 1, 9, 8. Each of the three lists has
    room for 4^n entries. */
-struct nettlestair_written nettlestair_blocks_from_raster(uint32_t n, const uint8_t *raster, size_t raster_len,
+struct nettlestair_written nettlestair_blocks_from_raster(uint32_t n, const uint16_t *raster, size_t raster_len,
                                                           uint32_t *codes, size_t codes_len, uint8_t *levels,
-                                                          size_t levels_len, uint8_t *colours, size_t colours_len);
+                                                          size_t levels_len, uint16_t *colours, size_t colours_len);
 
 /* The raster of a block list: 0, or 1 to 8. The raster has room for 4^n entries. */
 struct nettlestair_written nettlestair_raster_from_blocks(uint32_t n, const uint32_t *codes, size_t codes_len,
                                                           const uint8_t *levels, size_t levels_len,
-                                                          const uint8_t *colours, size_t colours_len, uint8_t *raster,
+                                                          const uint16_t *colours, size_t colours_len, uint16_t *raster,
                                                           size_t raster_len);
 
 /* The region number of each block, at its place in the labels, and how many regions there are: 0, or 1 to 8. The labels have
    room for one entry a block, the work list for 2 times 4^n; on acceptance that many of its entries are 0. */
 struct nettlestair_numbered nettlestair_number(uint32_t n, const uint32_t *codes, size_t codes_len, const uint8_t *levels,
-                                               size_t levels_len, const uint8_t *colours, size_t colours_len,
+                                               size_t levels_len, const uint16_t *colours, size_t colours_len,
                                                uint32_t *labels, size_t labels_len, uint32_t *work, size_t work_len);
 
 /* The outlines of all regions: 0, or 1 to 8. Labels and work list are as for nettlestair_number. For each cycle the owners hold
    its region and the ends the index after its last corner; the corners, y times 512 plus x each, stand cycle after cycle. Owners
    and ends have room for 4^n entries each, the corners for 4 times 4^n. */
 struct nettlestair_traced nettlestair_trace(uint32_t n, const uint32_t *codes, size_t codes_len, const uint8_t *levels,
-                                            size_t levels_len, const uint8_t *colours, size_t colours_len,
+                                            size_t levels_len, const uint16_t *colours, size_t colours_len,
                                             uint32_t *labels, size_t labels_len, uint32_t *work, size_t work_len,
                                             uint32_t *owners, size_t owners_len, uint32_t *ends, size_t ends_len,
                                             uint32_t *corners, size_t corners_len);
@@ -94,8 +93,9 @@ struct nettlestair_written nettlestair_svg(const uint32_t *corners, size_t corne
 struct nettlestair_written nettlestair_read_chain(uint32_t start, const uint8_t *chain, size_t chain_len,
                                                   uint32_t *corners, size_t corners_len);
 
-/* Reads a binary PGM of any length: 0, or 10 to 14 with zeros. The raster is the `length` = 4^n bytes from `start` on. */
-struct nettlestair_picture nettlestair_read_pgm(const uint8_t *bytes, size_t bytes_len);
+/* Reads a binary PGM of any length into the raster, row by row, north row first: 0, or 10 to 14, 8 with zeros beside it. A sample is
+   one byte for a maxval up to 255 and two above it, the most significant first. The raster has room for 4^n entries. */
+struct nettlestair_picture nettlestair_read_pgm(const uint8_t *bytes, size_t bytes_len, uint16_t *raster, size_t raster_len);
 
 #ifdef __cplusplus
 }

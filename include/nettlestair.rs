@@ -48,14 +48,14 @@ impl Stretch {
     }
 }
 
-/// What a picture is: its number, and on acceptance n, maxval and the part of the bytes that is the raster.
+/// What a picture is: its number, and on acceptance n, maxval and how many samples it has, which is 4^n.
 #[repr(C)]
 #[derive(Clone, Copy, Debug, PartialEq, Eq)]
 pub struct Picture {
     pub number: u32,
     pub n: u32,
     pub maxval: u32,
-    pub raster: Stretch,
+    pub count: u32,
 }
 
 extern "C" {
@@ -67,19 +67,19 @@ extern "C" {
         codes_len: usize,
         levels: *const u8,
         levels_len: usize,
-        colours: *const u8,
+        colours: *const u16,
         colours_len: usize,
     ) -> u32;
 
     fn nettlestair_blocks_from_raster(
         n: u32,
-        raster: *const u8,
+        raster: *const u16,
         raster_len: usize,
         codes: *mut u32,
         codes_len: usize,
         levels: *mut u8,
         levels_len: usize,
-        colours: *mut u8,
+        colours: *mut u16,
         colours_len: usize,
     ) -> Written;
 
@@ -89,9 +89,9 @@ extern "C" {
         codes_len: usize,
         levels: *const u8,
         levels_len: usize,
-        colours: *const u8,
+        colours: *const u16,
         colours_len: usize,
-        raster: *mut u8,
+        raster: *mut u16,
         raster_len: usize,
     ) -> Written;
 
@@ -101,7 +101,7 @@ extern "C" {
         codes_len: usize,
         levels: *const u8,
         levels_len: usize,
-        colours: *const u8,
+        colours: *const u16,
         colours_len: usize,
         labels: *mut u32,
         labels_len: usize,
@@ -115,7 +115,7 @@ extern "C" {
         codes_len: usize,
         levels: *const u8,
         levels_len: usize,
-        colours: *const u8,
+        colours: *const u16,
         colours_len: usize,
         labels: *mut u32,
         labels_len: usize,
@@ -148,7 +148,7 @@ extern "C" {
         corners_len: usize,
     ) -> Written;
 
-    fn nettlestair_read_pgm(bytes: *const u8, bytes_len: usize) -> Picture;
+    fn nettlestair_read_pgm(bytes: *const u8, bytes_len: usize, raster: *mut u16, raster_len: usize) -> Picture;
 }
 
 // Each call is sound: a pointer comes with the length of its slice, and the borrow checker keeps a list that is written to
@@ -161,7 +161,7 @@ pub fn code(x: u16, y: u16) -> u32 {
 }
 
 /// The number of a block list of an image of side 2^n: 0 where it is accepted, else 1 to 7.
-pub fn check(n: u32, codes: &[u32], levels: &[u8], colours: &[u8]) -> u32 {
+pub fn check(n: u32, codes: &[u32], levels: &[u8], colours: &[u16]) -> u32 {
     unsafe {
         nettlestair_check(
             n,
@@ -177,7 +177,13 @@ pub fn check(n: u32, codes: &[u32], levels: &[u8], colours: &[u8]) -> u32 {
 
 /// The merged block list of a raster (row by row, north row first) of 4^n entries: 0, or 1, 9, 8. Each of the three lists has
 /// room for 4^n entries.
-pub fn blocks_from_raster(n: u32, raster: &[u8], codes: &mut [u32], levels: &mut [u8], colours: &mut [u8]) -> Written {
+pub fn blocks_from_raster(
+    n: u32,
+    raster: &[u16],
+    codes: &mut [u32],
+    levels: &mut [u8],
+    colours: &mut [u16],
+) -> Written {
     unsafe {
         nettlestair_blocks_from_raster(
             n,
@@ -194,7 +200,7 @@ pub fn blocks_from_raster(n: u32, raster: &[u8], codes: &mut [u32], levels: &mut
 }
 
 /// The raster of a block list: 0, or 1 to 8. The raster has room for 4^n entries.
-pub fn raster_from_blocks(n: u32, codes: &[u32], levels: &[u8], colours: &[u8], raster: &mut [u8]) -> Written {
+pub fn raster_from_blocks(n: u32, codes: &[u32], levels: &[u8], colours: &[u16], raster: &mut [u16]) -> Written {
     unsafe {
         nettlestair_raster_from_blocks(
             n,
@@ -212,7 +218,7 @@ pub fn raster_from_blocks(n: u32, codes: &[u32], levels: &[u8], colours: &[u8], 
 
 /// The region number of each block, at its place in the labels, and how many regions there are: 0, or 1 to 8. The labels have
 /// room for one entry a block, the work list for 2 times 4^n; on acceptance that many of its entries are 0.
-pub fn number(n: u32, codes: &[u32], levels: &[u8], colours: &[u8], labels: &mut [u32], work: &mut [u32]) -> Numbered {
+pub fn number(n: u32, codes: &[u32], levels: &[u8], colours: &[u16], labels: &mut [u32], work: &mut [u32]) -> Numbered {
     unsafe {
         nettlestair_number(
             n,
@@ -238,7 +244,7 @@ pub fn trace(
     n: u32,
     codes: &[u32],
     levels: &[u8],
-    colours: &[u8],
+    colours: &[u16],
     labels: &mut [u32],
     work: &mut [u32],
     owners: &mut [u32],
@@ -284,7 +290,8 @@ pub fn read_chain(start: u32, chain: &[u8], corners: &mut [u32]) -> Written {
     unsafe { nettlestair_read_chain(start, chain.as_ptr(), chain.len(), corners.as_mut_ptr(), corners.len()) }
 }
 
-/// Reads a binary PGM of any length: 0, or 10 to 14 with zeros and the empty part at 0. The raster is 4^n bytes of it.
-pub fn read_pgm(bytes: &[u8]) -> Picture {
-    unsafe { nettlestair_read_pgm(bytes.as_ptr(), bytes.len()) }
+/// Reads a binary PGM of any length into the raster, row by row, north row first: 0, or 10 to 14, 8 with zeros beside it. A sample
+/// is one byte for a maxval up to 255 and two above it, the most significant first. The raster has room for 4^n entries.
+pub fn read_pgm(bytes: &[u8], raster: &mut [u16]) -> Picture {
+    unsafe { nettlestair_read_pgm(bytes.as_ptr(), bytes.len(), raster.as_mut_ptr(), raster.len()) }
 }

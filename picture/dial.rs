@@ -13,17 +13,21 @@ pub struct Dial {
 #[derive(Clone, Default)]
 pub struct Region {
     pub path: String,
-    pub colour: u8,
+    pub colour: u16,
     pub pixels: usize,
 }
+
+/// The pixels of the largest picture.
+const LARGEST: usize = 65_536;
 
 impl Dial {
     /// The dial in the bytes of a picture, or the number with which the library refuses it.
     pub fn read(bytes: &[u8]) -> Result<Dial, u32> {
-        let picture = library::read_pgm(bytes);
+        let mut raster = vec![0; LARGEST];
+        let picture = library::read_pgm(bytes, &mut raster);
         accepted(picture.number)?;
-        let (n, raster) = (picture.n, picture.raster.of(bytes));
-        let whole = raster.len();
+        let (n, whole) = (picture.n, picture.count as usize);
+        let raster = &raster[..whole];
 
         let (mut codes, mut levels, mut colours) = (vec![0; whole], vec![0; whole], vec![0; whole]);
         let merged = library::blocks_from_raster(n, raster, &mut codes, &mut levels, &mut colours);

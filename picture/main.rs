@@ -90,8 +90,8 @@ fn cause(number: u32, bytes: &[u8]) -> &'static str {
         10 if !bytes.starts_with(b"P5") => "it is no binary PGM, which begins with P5",
         10 => "P5 is not followed by width, height, maxval and one white space byte, with white space or remarks between them",
         11 => "width and height are not equal, or not a power of two from 1 to 256",
-        12 => "maxval is not from 1 to 255",
-        13 => "the raster is not exactly width times height bytes: it breaks off, or something follows it",
+        12 => "maxval is not from 1 to 65,535",
+        13 => "the raster is not exactly width times height samples, of two bytes above a maxval of 255: it breaks off, or something follows it",
         14 => "a sample is above maxval",
         _ => "docs/ANSWERS.md says why",
     }

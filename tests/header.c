@@ -13,12 +13,15 @@ static void expect(const char *what, int holds) {
 }
 
 int main(void) {
-    /* figure 5(b) */
-    const uint8_t raster[16] = {1, 1, 1, 1, 1, 2, 1, 1, 1, 1, 3, 3, 1, 1, 3, 3};
+    /* figure 5(b), in colours of which the second differs from the first in the high byte alone */
+    const uint16_t raster[16] = {1, 1, 1, 1, 1, 257, 1, 1, 1, 1, 65535, 65535, 1, 1, 65535, 65535};
     const uint32_t codes[7] = {0, 1, 2, 3, 4, 8, 12};
-    const uint8_t levels[7] = {0, 0, 0, 0, 1, 1, 1}, colours[7] = {1, 1, 1, 2, 1, 1, 3};
+    const uint8_t levels[7] = {0, 0, 0, 0, 1, 1, 1};
+    const uint16_t colours[7] = {1, 1, 1, 257, 1, 1, 65535};
     uint32_t c[16];
-    uint8_t l[16], k[16], r[17];
+    uint8_t l[16];
+    uint16_t k[17], r[17];
+    memset(k, 99, sizeof k);
     memset(r, 99, sizeof r);
 
     expect("code", nettlestair_code(3, 5) == 39);
@@ -29,13 +32,14 @@ int main(void) {
     expect("check, lists of unlike lengths", nettlestair_check(2, codes, 7, levels, 6, colours, 7) == 2);
     expect("check, an empty list", nettlestair_check(2, codes, 0, levels, 0, colours, 0) == 6);
 
-    struct nettlestair_written w = nettlestair_blocks_from_raster(2, raster, 16, c, 16, l, 16, k, 16);
+    struct nettlestair_written w = nettlestair_blocks_from_raster(2, raster, 16, c, 16, l, 16, k, 17);
     expect("blocks from raster, answer", w.number == 0 && w.count == 7);
-    expect("blocks from raster, lists", !memcmp(c, codes, sizeof codes) && !memcmp(l, levels, 7) && !memcmp(k, colours, 7));
+    expect("blocks from raster, codes and levels", !memcmp(c, codes, sizeof codes) && !memcmp(l, levels, sizeof levels));
+    expect("blocks from raster, colours", !memcmp(k, colours, sizeof colours) && k[7] == 0x6363);
 
     w = nettlestair_raster_from_blocks(2, codes, 7, levels, 7, colours, 7, r, 17);
     expect("raster from blocks, answer", w.number == 0 && w.count == 16);
-    expect("raster from blocks, raster", !memcmp(r, raster, 16) && r[16] == 99);
+    expect("raster from blocks, raster", !memcmp(r, raster, sizeof raster) && r[16] == 0x6363);
 
     w = nettlestair_raster_from_blocks(2, codes, 7, levels, 7, colours, 7, r, 15);
     expect("raster from blocks, too short", w.number == 8 && w.count == 0);
@@ -81,10 +85,20 @@ int main(void) {
     struct nettlestair_stretch s = nettlestair_cycle(square, 4, ends, 2, 2, 1);
     expect("stretch", s.start == 1 && s.length == 3);
 
-    struct nettlestair_picture p = nettlestair_read_pgm((const uint8_t *)"P5 2 2 9 \1\2\3\4", 13);
-    expect("picture", p.number == 0 && p.n == 1 && p.maxval == 9 && p.start == 9 && p.length == 4);
-    p = nettlestair_read_pgm((const uint8_t *)"P5 3", 4);
-    expect("bad header", p.number == 10 && p.n == 0 && p.maxval == 0 && p.start == 0 && p.length == 0);
+    const uint16_t one[5] = {1, 2, 3, 4, 0x6363}, two[5] = {258, 772, 0, 999, 0x6363};
+    uint16_t samples[5];
+    memset(samples, 99, sizeof samples);
+    struct nettlestair_picture p = nettlestair_read_pgm((const uint8_t *)"P5 2 2 9 \1\2\3\4", 13, samples, 5);
+    expect("picture, answer", p.number == 0 && p.n == 1 && p.maxval == 9 && p.count == 4);
+    expect("picture, raster", !memcmp(samples, one, sizeof one));
+    p = nettlestair_read_pgm((const uint8_t *)"P5 2 2 999 \1\2\3\4\0\0\3\347", 19, samples, 4);
+    expect("picture of two bytes a sample, answer", p.number == 0 && p.n == 1 && p.maxval == 999 && p.count == 4);
+    expect("picture of two bytes a sample, raster", !memcmp(samples, two, sizeof two));
+    p = nettlestair_read_pgm((const uint8_t *)"P5 2 2 9 \1\2\3\4", 13, samples, 3);
+    expect("picture, too short", p.number == 8 && p.n == 0 && p.maxval == 0 && p.count == 0);
+    p = nettlestair_read_pgm((const uint8_t *)"P5 3", 4, samples, 5);
+    expect("bad header", p.number == 10 && p.n == 0 && p.maxval == 0 && p.count == 0);
+    expect("refusals leave the raster", !memcmp(samples, two, sizeof two));
 
     return failures != 0;
 }

@@ -8,10 +8,10 @@ use std::hint::black_box;
 
 /// A raster with its block list.
 struct Input {
-    raster: Vec<u8>,
+    raster: Vec<u16>,
     codes: Vec<u32>,
     levels: Vec<u8>,
-    colours: Vec<u8>,
+    colours: Vec<u16>,
 }
 
 impl Input {

@@ -22,7 +22,7 @@ usage: cargo run --release --offline --manifest-path bench/Cargo.toml [-- MODE]
 Times the proved library (target/staticlib/libexports.a) against a plain Rust implementation of the same job.
 
   outlines   check, number and trace at n = 8, and how the time of trace grows from n = 4 to n = 8
-  rasters    blocks_from_raster and raster_from_blocks, the same way
+  rasters    blocks_from_raster and raster_from_blocks at n = 8, and read_pgm of one byte a sample and of two
   codes      a code for each pixel of 256 by 256
   all        all of these (without MODE)
 

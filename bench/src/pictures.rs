@@ -7,7 +7,7 @@ use crate::random::Random;
 /// A kind of picture: its name, and its raster for n and a seed.
 pub struct Kind {
     pub name: &'static str,
-    pub raster: fn(u32, u64) -> Vec<u8>,
+    pub raster: fn(u32, u64) -> Vec<u16>,
 }
 
 pub const KINDS: [Kind; 9] = [
@@ -23,24 +23,33 @@ pub const KINDS: [Kind; 9] = [
 ];
 
 /// The raster whose pixel (x, y) has the colour `colour(x, y)`.
-fn drawn(n: u32, colour: impl Fn(usize, usize) -> u8) -> Vec<u8> {
+fn drawn(n: u32, colour: impl Fn(usize, usize) -> u16) -> Vec<u16> {
     let side = 1 << n;
     (0..side * side).map(|i| colour(i % side, i / side)).collect()
 }
 
-fn noise(n: u32, colours: usize, seed: u64) -> Vec<u8> {
+fn noise(n: u32, colours: usize, seed: u64) -> Vec<u16> {
     let mut random = Random::new(seed);
-    (0..1 << (2 * n)).map(|_| random.below(colours) as u8).collect()
+    (0..1 << (2 * n)).map(|_| random.below(colours) as u16).collect()
+}
+
+/// The file of a picture whose samples are noise up to maxval: a binary PGM of one byte a sample or, above 255, two.
+pub fn file(n: u32, maxval: u16, seed: u64) -> Vec<u8> {
+    let side = 1 << n;
+    let width = if maxval > 255 { 2 } else { 1 };
+    let samples = noise(n, usize::from(maxval) + 1, seed).into_iter().map(u16::to_be_bytes);
+    let header = format!("P5\n{side} {side}\n{maxval}\n").into_bytes();
+    header.into_iter().chain(samples.flat_map(|bytes| bytes.into_iter().skip(2 - width))).collect()
 }
 
 /// Discs of five colours laid over one another, larger in a larger picture.
-fn blobs(n: u32, seed: u64) -> Vec<u8> {
+fn blobs(n: u32, seed: u64) -> Vec<u16> {
     let side = 1 << n;
     let mut random = Random::new(seed);
     let mut raster = vec![0; side * side];
     for _ in 0..150 {
         let (x, y) = (random.below(side), random.below(side));
-        let (radius, colour) = (1 + random.below(side / 8), random.below(5) as u8);
+        let (radius, colour) = (1 + random.below(side / 8), random.below(5) as u16);
         for (i, pixel) in raster.iter_mut().enumerate() {
             let (dx, dy) = ((i % side).abs_diff(x), (i / side).abs_diff(y));
             if dx * dx + dy * dy <= radius * radius {
@@ -52,27 +61,28 @@ fn blobs(n: u32, seed: u64) -> Vec<u8> {
 }
 
 /// Rings two pixels wide around a place near the middle, of two colours by turns.
-fn rings(n: u32, seed: u64) -> Vec<u8> {
+fn rings(n: u32, seed: u64) -> Vec<u16> {
     let mut random = Random::new(seed);
     let mut near_the_middle = || (1 << (n - 2)) + random.below(1 << (n - 1));
     let (middle_x, middle_y) = (near_the_middle(), near_the_middle());
     drawn(n, |x, y| {
         let (dx, dy) = (x.abs_diff(middle_x), y.abs_diff(middle_y));
-        ((dx * dx + dy * dy).isqrt() / 2 % 2) as u8
+        ((dx * dx + dy * dy).isqrt() / 2 % 2) as u16
     })
 }
 
 /// A clock face at some time.
-fn clock(n: u32, seed: u64) -> Vec<u8> {
-    dial::clock(1 << n, Random::new(seed).below(12 * 60 * 60) as u32)
+fn clock(n: u32, seed: u64) -> Vec<u16> {
+    let face = dial::clock(1 << n, Random::new(seed).below(12 * 60 * 60) as u32);
+    face.into_iter().map(u16::from).collect()
 }
 
-fn checkerboard(n: u32) -> Vec<u8> {
-    drawn(n, |x, y| ((x + y) % 2) as u8)
+fn checkerboard(n: u32) -> Vec<u16> {
+    drawn(n, |x, y| ((x + y) % 2) as u16)
 }
 
 /// A line one pixel wide that winds from the northwest corner inward, with a gap of one pixel between its turns.
-fn spiral(n: u32) -> Vec<u8> {
+fn spiral(n: u32) -> Vec<u16> {
     let side: i32 = 1 << n;
     let mut raster = vec![0; (side * side) as usize];
     let inside = |x: i32, y: i32| (0..side).contains(&x) && (0..side).contains(&y);
@@ -94,7 +104,7 @@ fn spiral(n: u32) -> Vec<u8> {
 }
 
 /// Teeth one pixel wide, joined along the south edge.
-fn comb(n: u32) -> Vec<u8> {
+fn comb(n: u32) -> Vec<u16> {
     let last = (1 << n) - 1;
-    drawn(n, |x, y| (x % 2 == 0 || y == last) as u8)
+    drawn(n, |x, y| (x % 2 == 0 || y == last) as u16)
 }

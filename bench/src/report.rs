@@ -1,10 +1,11 @@
 //! What is timed and how it is told.
 
 use crate::inputs::Inputs;
-use crate::pictures::KINDS;
+use crate::pictures::{self, KINDS};
 use crate::plain::spread_code;
-use crate::sides::{LIBRARY, PLAIN};
+use crate::sides::{Side, LIBRARY, PLAIN};
 use crate::timing::{compare, Times, SAMPLES};
+use std::cell::RefCell;
 use std::hint::black_box;
 
 const GOAL_RATIO: f64 = 1.0;
@@ -95,7 +96,7 @@ fn factors(times: &[f64]) -> String {
         .collect()
 }
 
-/// Raster to blocks and back at n = 8. Says whether all answers were equal.
+/// Raster to blocks and back at n = 8, then pictures read. Says whether all answers were equal.
 pub fn rasters() -> bool {
     let mut equal = true;
     println!("\nn = 8, microseconds a picture");
@@ -110,6 +111,36 @@ pub fn rasters() -> bool {
             largest.blocks(),
             columns(largest.time_merge()),
             columns(largest.time_paint()),
+            if same { "equal" } else { "DIFFERENT" }
+        );
+        equal &= same;
+    }
+    reading() && equal
+}
+
+/// Pictures of 256 by 256 read into a raster, of one byte a sample and of two. Says whether all answers were equal.
+fn reading() -> bool {
+    let mut equal = true;
+    println!("\nA picture of 256 by 256 read into a raster, microseconds");
+    println!("{:<28} | {:^28} |", "", "read_pgm");
+    println!("{:<28} | {HEADING} | answers", "");
+    for (name, maxval) in [("maxval 255, one byte", 255), ("maxval 65,535, two bytes", 65_535)] {
+        let read = |side: &Side, bytes: &[u8]| {
+            let mut raster = vec![9; 65_537];
+            ((side.read_pgm)(bytes, &mut raster), raster)
+        };
+        let equal_answers = |bytes: &[u8]| read(&LIBRARY, bytes) == read(&PLAIN, bytes);
+        let same = SIZES
+            .map(|n| pictures::file(n, maxval, 0))
+            .all(|file| equal_answers(&file) && equal_answers(&file[..file.len() - 1]));
+        let file = pictures::file(8, maxval, 0);
+        let raster = RefCell::new(vec![0; 65_536]);
+        let job = |side: &Side| {
+            black_box((side.read_pgm)(black_box(&file), &mut raster.borrow_mut()));
+        };
+        println!(
+            "{name:<28} | {} | {}",
+            columns(compare(|| job(&LIBRARY), || job(&PLAIN))),
             if same { "equal" } else { "DIFFERENT" }
         );
         equal &= same;

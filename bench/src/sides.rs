@@ -1,6 +1,6 @@
 //! The two sides that are timed, and what is lent to both.
 
-use crate::nettlestair::{Numbered, Traced, Written};
+use crate::nettlestair::{Numbered, Picture, Traced, Written};
 use crate::{nettlestair, plain};
 
 /// A block list.
@@ -8,12 +8,12 @@ use crate::{nettlestair, plain};
 pub struct Blocks<'a> {
     pub codes: &'a [u32],
     pub levels: &'a [u8],
-    pub colours: &'a [u8],
+    pub colours: &'a [u16],
 }
 
 impl<'a> Blocks<'a> {
     /// Code, level and colour of each block.
-    pub fn iter(self) -> impl Iterator<Item = (u32, u8, u8)> + 'a {
+    pub fn iter(self) -> impl Iterator<Item = (u32, u8, u16)> + 'a {
         let parts = self.codes.iter().zip(self.levels).zip(self.colours);
         parts.map(|((&code, &level), &colour)| (code, level, colour))
     }
@@ -35,8 +35,9 @@ pub struct Side {
     pub check: fn(u32, Blocks) -> u32,
     pub number: fn(u32, Blocks, &mut [u32], &mut [u32]) -> Numbered,
     pub trace: fn(u32, Blocks, Lent) -> Traced,
-    pub blocks_from_raster: fn(u32, &[u8], &mut [u32], &mut [u8], &mut [u8]) -> Written,
-    pub raster_from_blocks: fn(u32, Blocks, &mut [u8]) -> Written,
+    pub blocks_from_raster: fn(u32, &[u16], &mut [u32], &mut [u8], &mut [u16]) -> Written,
+    pub raster_from_blocks: fn(u32, Blocks, &mut [u16]) -> Written,
+    pub read_pgm: fn(&[u8], &mut [u16]) -> Picture,
 }
 
 pub const LIBRARY: Side = Side {
@@ -52,6 +53,7 @@ pub const LIBRARY: Side = Side {
     raster_from_blocks: |n, blocks, raster| {
         nettlestair::raster_from_blocks(n, blocks.codes, blocks.levels, blocks.colours, raster)
     },
+    read_pgm: nettlestair::read_pgm,
 };
 
 pub const PLAIN: Side = Side {
@@ -61,6 +63,7 @@ pub const PLAIN: Side = Side {
     trace: plain::trace,
     blocks_from_raster: plain::blocks_from_raster,
     raster_from_blocks: plain::raster_from_blocks,
+    read_pgm: plain::read_pgm,
 };
 
 /// The lists that are lent, each of exactly its need. Both sides are lent the same ones.

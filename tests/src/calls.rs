@@ -3,7 +3,8 @@
 use crate::compare::difference;
 use crate::lent::{Entry, Lent};
 use crate::model::blocks::Blocks;
-use crate::nettlestair::{self, Numbered, Traced, Written};
+use crate::model::pgm::Read;
+use crate::nettlestair::{self, Numbered, Picture, Traced, Written};
 use crate::random::Random;
 use std::fmt::{Debug, Display};
 use std::hint::black_box;
@@ -18,12 +19,12 @@ pub struct BlocksOut {
     pub written: Written,
     pub codes: Lent<u32>,
     pub levels: Lent<u8>,
-    pub colours: Lent<u8>,
+    pub colours: Lent<u16>,
 }
 
 impl BlocksOut {
     /// Lends lists of the given lengths for codes, levels and colours.
-    pub fn call(random: &mut Random, n: u32, raster: &[u8], lengths: [usize; 3]) -> BlocksOut {
+    pub fn call(random: &mut Random, n: u32, raster: &[u16], lengths: [usize; 3]) -> BlocksOut {
         let before = raster.to_vec();
         let mut codes = Lent::new(random, lengths[0]);
         let mut levels = Lent::new(random, lengths[1]);
@@ -82,10 +83,34 @@ impl<T: Entry> Out<T> {
 }
 
 /// Blocks to raster, with a raster of the given length.
-pub fn raster_from_blocks(random: &mut Random, n: u32, blocks: &Blocks, length: usize) -> Out<u8> {
+pub fn raster_from_blocks(random: &mut Random, n: u32, blocks: &Blocks, length: usize) -> Out<u16> {
     handed_in(blocks, |Blocks { codes, levels, colours }| {
         Out::of(random, length, |raster| nettlestair::raster_from_blocks(n, codes, levels, colours, raster))
     })
+}
+
+/// The reader of pictures, after a call.
+pub struct PictureOut {
+    pub picture: Picture,
+    pub raster: Lent<u16>,
+}
+
+impl PictureOut {
+    /// Lends a raster of the given length.
+    pub fn call(random: &mut Random, bytes: &[u8], length: usize) -> PictureOut {
+        let before = bytes.to_vec();
+        let mut raster = Lent::new(random, length);
+        let picture = nettlestair::read_pgm(black_box(bytes), raster.lend());
+        unchanged("bytes", &before, black_box(bytes));
+        PictureOut { picture, raster }
+    }
+
+    /// What differs: the answer or an entry, also one that should be as it was.
+    pub fn difference(&self, expected: &Read) -> Option<String> {
+        let Read { number, n, maxval, ref samples } = *expected;
+        answer(Picture { number, n, maxval, count: samples.len() as u32 }, self.picture)
+            .or_else(|| self.raster.difference(samples).map(|d| format!("raster, {d}")))
+    }
 }
 
 /// The names of the lists that numbering (the first two) and tracing (all five) are lent.

@@ -1,25 +1,26 @@
 //! Inputs made faulty by one change somewhere.
 
+use crate::lent::Entry;
 use crate::model::blocks::Blocks;
 use crate::random::Random;
 
 /// One change of a block list.
 pub fn in_blocks(random: &mut Random, blocks: &mut Blocks) {
     if blocks.is_empty() {
-        return blocks.push(random.word(), random.byte(), random.byte());
+        return blocks.push(random.word(), random.byte(), random.colour());
     }
     let at = random.below(blocks.len().min(blocks.levels.len()).min(blocks.colours.len()).max(1));
     if at >= blocks.levels.len() || at >= blocks.colours.len() {
         return;
     }
-    match random.below(12) {
+    match random.below(13) {
         0 => blocks.codes[at] = blocks.codes[at].wrapping_add(1),
         1 => blocks.codes[at] = blocks.codes[at].wrapping_sub(1),
         2 => blocks.codes[at] = blocks.codes[at].wrapping_add(65536),
         3 => blocks.codes[at] = random.word(),
         4 => blocks.levels[at] = blocks.levels[at].wrapping_add(1),
         5 => blocks.levels[at] = random.byte(),
-        6 => blocks.colours[at] = random.byte(),
+        6 => blocks.colours[at] = random.colour(),
         7 => drop((blocks.codes.remove(at), blocks.levels.remove(at), blocks.colours.remove(at))),
         8 => blocks.push(blocks.codes[at], blocks.levels[at], blocks.colours[at]),
         9 => drop(blocks.colours.pop()),
@@ -32,6 +33,7 @@ pub fn in_blocks(random: &mut Random, blocks: &mut Blocks) {
             }
             level => split(blocks, at, level.min(16) - 1),
         },
+        11 => blocks.colours[at] ^= 1 << random.below(16),
         _ => {
             // the level one too large, and the blocks that it then covers gone
             blocks.levels[at] = blocks.levels[at].saturating_add(1);
@@ -46,6 +48,18 @@ pub fn in_blocks(random: &mut Random, blocks: &mut Blocks) {
     }
 }
 
+/// A block that is larger than a pixel, if there is one, in four whose colours are equal but for one binary digit of one of them. That
+/// is no fault.
+pub fn split_unlike(random: &mut Random, blocks: &mut Blocks) {
+    let large: Vec<usize> = (0..blocks.len()).filter(|&at| blocks.levels[at] > 0).collect();
+    if large.is_empty() {
+        return;
+    }
+    let at = large[random.below(large.len())];
+    split(blocks, at, blocks.levels[at] - 1);
+    blocks.colours[at + random.below(4)] ^= 1 << random.below(16);
+}
+
 /// A block in four of the level below it.
 fn split(blocks: &mut Blocks, at: usize, level: u8) {
     let (code, colour) = (blocks.codes[at], blocks.colours[at]);
@@ -57,15 +71,15 @@ fn split(blocks: &mut Blocks, at: usize, level: u8) {
     }
 }
 
-/// One change of a list of bytes: another byte, or one more, or one less, or an end cut off.
-pub fn in_bytes(random: &mut Random, bytes: &mut Vec<u8>, likely: &[u8]) {
-    let at = random.below(bytes.len() + 1);
-    let byte = if random.below(4) == 0 { random.byte() } else { likely[random.below(likely.len())] };
+/// One change of a list of bytes or of colours: another entry, or one more, or one less, or an end cut off.
+pub fn in_list<T: Entry>(random: &mut Random, list: &mut Vec<T>, likely: &[T]) {
+    let at = random.below(list.len() + 1);
+    let entry = if random.below(4) == 0 { T::garbage(random) } else { likely[random.below(likely.len())] };
     match random.below(4) {
-        0 if at < bytes.len() => bytes[at] = byte,
-        1 if at < bytes.len() => drop(bytes.remove(at)),
-        2 => bytes.truncate(at),
-        _ => bytes.insert(at, byte),
+        0 if at < list.len() => list[at] = entry,
+        1 if at < list.len() => drop(list.remove(at)),
+        2 => list.truncate(at),
+        _ => list.insert(at, entry),
     }
 }
 

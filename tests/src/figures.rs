@@ -8,13 +8,13 @@ pub const FIGURE_1_A: [Point; 10] =
     [(0, 16), (0, 0), (16, 0), (16, 4), (8, 4), (8, 7), (9, 7), (9, 8), (4, 8), (4, 16)];
 
 /// 000, figure 5(a): the two components of the boundary of A, and the boundary of B.
-pub const FIGURE_5A: [u8; 16] = [1, 1, 1, 1, 1, 2, 2, 1, 1, 2, 2, 1, 1, 1, 1, 1];
+pub const FIGURE_5A: [u16; 16] = [1, 1, 1, 1, 1, 2, 2, 1, 1, 2, 2, 1, 1, 1, 1, 1];
 pub const FIGURE_5A_OUTER: [Point; 4] = [(0, 0), (4, 0), (4, 4), (0, 4)];
 pub const FIGURE_5A_INNER: [Point; 4] = [(1, 1), (1, 3), (3, 3), (3, 1)];
 pub const FIGURE_5A_B: [Point; 4] = [(1, 1), (3, 1), (3, 3), (1, 3)];
 
 /// 000, figure 5(b): "the boundary of A as a single component".
-pub const FIGURE_5B: [u8; 16] = [1, 1, 1, 1, 1, 2, 1, 1, 1, 1, 3, 3, 1, 1, 3, 3];
+pub const FIGURE_5B: [u16; 16] = [1, 1, 1, 1, 1, 2, 1, 1, 1, 1, 3, 3, 1, 1, 3, 3];
 pub const FIGURE_5B_A: [Point; 10] = [(0, 0), (4, 0), (4, 2), (2, 2), (2, 1), (1, 1), (1, 2), (2, 2), (2, 4), (0, 4)];
 
 /// 001, figure 1(a), "moving clockwise starting from the left of the uppermost border points", in a 16 by 16 array.
@@ -43,19 +43,19 @@ pub fn points(start: Point, chain: &[u8]) -> Vec<Point> {
 
 /// The raster of side 2^n with 1 inside a closed outline and 0 outside: a pixel is inside where an odd number of the outline's
 /// sides lie straight west of it.
-pub fn filled(n: u32, outline: &[Point]) -> Vec<u8> {
+pub fn filled(n: u32, outline: &[Point]) -> Vec<u16> {
     let ends = outline.iter().cycle().skip(1);
     let upright: Vec<(Point, Point)> =
         outline.iter().copied().zip(ends.copied()).filter(|(from, to)| from.0 == to.0).collect();
     let inside = |x: u32, y: u32| {
         let west = upright.iter().filter(|(a, b)| a.0 <= x && a.1.min(b.1) <= y && y < a.1.max(b.1));
-        (west.count() % 2) as u8
+        (west.count() % 2) as u16
     };
     (0..1 << n).flat_map(|y| (0..1 << n).map(move |x| (x, y))).map(|(x, y)| inside(x, y)).collect()
 }
 
 /// The figures: name, n and raster.
-pub fn all() -> Vec<(&'static str, u32, Vec<u8>)> {
+pub fn all() -> Vec<(&'static str, u32, Vec<u16>)> {
     vec![
         ("000, region A of figure 1", 4, filled(4, &FIGURE_1_A)),
         ("000, figure 5(a)", 2, FIGURE_5A.to_vec()),

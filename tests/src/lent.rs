@@ -19,6 +19,12 @@ impl Entry for u8 {
     }
 }
 
+impl Entry for u16 {
+    fn garbage(random: &mut Random) -> u16 {
+        random.colour()
+    }
+}
+
 impl Entry for u32 {
     fn garbage(random: &mut Random) -> u32 {
         random.word()

@@ -16,6 +16,7 @@ pub mod model;
 #[path = "../../include/nettlestair.rs"]
 pub mod nettlestair;
 pub mod outlines;
+pub mod pictures;
 pub mod png;
 pub mod programs;
 pub mod random;

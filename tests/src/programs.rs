@@ -17,12 +17,6 @@ pub fn samples() -> Vec<(PathBuf, Vec<u8>)> {
     pictures.into_iter().map(|path| (path.clone(), std::fs::read(path).expect("a sample"))).collect()
 }
 
-/// A picture with a maxval of 255.
-pub fn pgm(n: u32, raster: &[u8]) -> Vec<u8> {
-    let side = 1 << n;
-    [format!("P5\n{side} {side}\n255\n").as_bytes(), raster].concat()
-}
-
 /// What a program did: its exit status, and what it wrote.
 #[derive(Debug, PartialEq, Eq)]
 pub struct Ran {

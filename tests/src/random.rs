@@ -36,12 +36,17 @@ impl Random {
         self.draw() as u8
     }
 
+    /// A colour from the whole range.
+    pub fn colour(&mut self) -> u16 {
+        self.draw() as u16
+    }
+
     pub fn word(&mut self) -> u32 {
         self.draw() as u32
     }
 
-    pub fn bytes(&mut self, count: usize) -> Vec<u8> {
-        (0..count).map(|_| self.byte()).collect()
+    pub fn colours(&mut self, count: usize) -> Vec<u16> {
+        (0..count).map(|_| self.colour()).collect()
     }
 
     pub fn words(&mut self, count: usize) -> Vec<u32> {

@@ -46,7 +46,7 @@ struct Row {
     what: &'static str,
     n: u32,
     /// code, level, colour
-    blocks: &'static [(u32, u8, u8)],
+    blocks: &'static [(u32, u8, u16)],
     /// The causes whose condition holds somewhere in the list.
     causes: &'static [u32],
     /// The one that is answered.
@@ -55,7 +55,7 @@ struct Row {
 
 const ROWS: &[Row] = &[
     // accepted
-    Row { what: "one pixel", n: 0, blocks: &[(0, 0, 255)], causes: &[], number: 0 },
+    Row { what: "one pixel", n: 0, blocks: &[(0, 0, 65_535)], causes: &[], number: 0 },
     Row { what: "four colours", n: 1, blocks: &[(0, 0, 1), (1, 0, 2), (2, 0, 3), (3, 0, 4)], causes: &[], number: 0 },
     Row {
         what: "four of a colour that do not start at a multiple",
@@ -183,7 +183,7 @@ const ROWS: &[Row] = &[
     Row { what: "6 and 7", n: 2, blocks: &[(0, 0, 1), (1, 0, 1), (2, 0, 1), (3, 0, 1)], causes: &[6, 7], number: 6 },
 ];
 
-fn list(rows: &[(u32, u8, u8)]) -> Blocks {
+fn list(rows: &[(u32, u8, u16)]) -> Blocks {
     let mut blocks = Blocks::default();
     for &(code, level, colour) in rows {
         blocks.push(code, level, colour);
@@ -264,12 +264,57 @@ fn large_n_is_refused_before_all_else() {
     cases.end();
 }
 
+/// Cause 7 looks at whole colours: four siblings have two colours in every way, which differ in one binary digit, in one byte or in
+/// both. They are 7 exactly where one of the two is there alone.
+#[test]
+fn siblings_of_two_colours() {
+    let mut cases = Cases::of("siblings of two colours");
+    let mut random = Random::of("siblings of two colours");
+    let digits = (0..16).map(|digit| 1 << digit);
+    let differences: Vec<u16> = digits.chain([0x00FF, 0xFF00, 0xFFFF, 0x0101]).collect();
+    for difference in differences {
+        for colour in [0, 0x00FF, 0x0100, 0xFFFF, random.colour()] {
+            for which in 0..16 {
+                let siblings: Vec<u16> =
+                    (0..4).map(|i| if which >> i & 1 == 1 { colour ^ difference } else { colour }).collect();
+                let expected = if which == 0 || which == 15 { 7 } else { 0 };
+                // four pixels, four squares of 2 by 2, then four pixels in each quadrant by turns, the others a block each
+                let four = |first: u32, level: u8| {
+                    (0..4)
+                        .map(move |i| first + (i << (2 * level)))
+                        .zip(&siblings)
+                        .map(move |(code, &k)| (code, level, k))
+                };
+                let mut lists = vec![(1, four(0, 0).collect::<Vec<_>>()), (2, four(0, 1).collect())];
+                for quadrant in 0..4 {
+                    let block = |quadrant: u32| (4 * quadrant, 1, colour);
+                    let (before, after) = ((0..quadrant).map(block), (quadrant + 1..4).map(block));
+                    lists.push((2, before.chain(four(4 * quadrant, 0)).chain(after).collect()));
+                }
+                for (n, blocks) in lists {
+                    judged("siblings", &mut random, n, &list(&blocks), expected);
+                    cases.ran();
+                }
+            }
+        }
+    }
+    cases.end();
+}
+
 #[test]
 fn every_small_list() {
     let mut cases = Cases::of("small lists");
-    for (n, longest, codes, levels, colours) in [(0, 3, 4, 3, 2), (1, 4, 5, 3, 2), (1, 5, 6, 2, 1)] {
-        let letters: Vec<(u32, u8, u8)> =
-            (0..codes).flat_map(|c| (0..levels).flat_map(move |l| (0..colours).map(move |k| (c, l, k)))).collect();
+    // colours: one, or two that differ in the low byte alone or in the high byte alone
+    let rows: [(u32, usize, u32, u8, &[u16]); 5] = [
+        (0, 3, 4, 3, &[0, 1]),
+        (0, 3, 4, 3, &[0, 256]),
+        (1, 4, 5, 3, &[0, 1]),
+        (1, 4, 5, 3, &[0, 256]),
+        (1, 5, 6, 2, &[0]),
+    ];
+    for (n, longest, codes, levels, colours) in rows {
+        let letters: Vec<(u32, u8, u16)> =
+            (0..codes).flat_map(|c| (0..levels).flat_map(move |l| colours.iter().map(move |&k| (c, l, k)))).collect();
         for length in 0..=longest {
             every_list(n, &letters, length, &mut Blocks::default(), &mut cases);
         }
@@ -278,7 +323,7 @@ fn every_small_list() {
 }
 
 /// Every list of `more` more blocks after those in `blocks`.
-fn every_list(n: u32, letters: &[(u32, u8, u8)], more: usize, blocks: &mut Blocks, cases: &mut Cases) {
+fn every_list(n: u32, letters: &[(u32, u8, u16)], more: usize, blocks: &mut Blocks, cases: &mut Cases) {
     let Blocks { codes, levels, colours } = &*blocks;
     if more == 0 {
         let expected = number(n, codes, levels, colours);

@@ -9,7 +9,7 @@ use tests::random::Random;
 
 /// The lists of dials 6 to 12 with the number that the document gives, and those of dials 1 to 5, which are accepted.
 fn dials() -> Vec<(&'static str, u32, Blocks, u32)> {
-    let blocks = |codes: &[u32], levels: &[u8], colours: &[u8]| Blocks {
+    let blocks = |codes: &[u32], levels: &[u8], colours: &[u16]| Blocks {
         codes: codes.to_vec(),
         levels: levels.to_vec(),
         colours: colours.to_vec(),

@@ -4,7 +4,8 @@ use std::fs;
 use std::path::{Path, PathBuf};
 use tests::cases::Cases;
 use tests::model::lines::printed;
-use tests::programs::{from_c, from_rust, pgm, run, samples, Ran};
+use tests::pictures::{of_both_widths, pgm};
+use tests::programs::{from_c, from_rust, run, samples, Ran};
 use tests::random::Random;
 use tests::rasters;
 
@@ -38,13 +39,15 @@ fn does_its_job(program: &Path, test: &'static str) {
         traces(program, &name, &bytes);
         cases.ran();
     }
-    let mut pictures: Vec<Vec<u8>> = (0..8).map(|n| pgm(n, &rasters::any(&mut random, n))).collect();
-    pictures.extend(rasters::structured(&mut random, 8).into_iter().map(|(_, raster)| pgm(8, &raster)));
+    let mut pictures: Vec<Vec<u8>> = (0..8).flat_map(|n| of_both_widths(n, &rasters::any(&mut random, n))).collect();
+    pictures.extend(rasters::structured(&mut random, 8).into_iter().map(|(_, raster)| pgm(8, 65_535, &raster)));
     // a header that is longer than the raster
     pictures.push([b"P5".to_vec(), vec![b' '; 200_000], b"1 1 255 x".to_vec()].concat());
     // faulty files
-    let whole = pgm(8, &[7; 65_536]);
-    pictures.extend([b"".to_vec(), b"P5".to_vec(), whole[..whole.len() - 1].to_vec(), [&whole[..], b"\n"].concat()]);
+    pictures.extend([b"".to_vec(), b"P5".to_vec()]);
+    for whole in of_both_widths(8, &[7; 65_536]) {
+        pictures.extend([whole[..whole.len() - 1].to_vec(), [&whole[..], b"\n"].concat()]);
+    }
     for bytes in pictures {
         traces(program, &file(&format!("{test}.pgm"), &bytes), &bytes);
         cases.ran();

@@ -3,7 +3,7 @@
 
 use std::collections::BTreeSet;
 use std::time::{Duration, Instant};
-use tests::calls::{self, BlocksOut, Called, Out};
+use tests::calls::{self, BlocksOut, Called, Out, PictureOut};
 use tests::cases::Cases;
 use tests::compare::Shown;
 use tests::expected::{needs, Model};
@@ -11,9 +11,10 @@ use tests::faults;
 use tests::lent::Entry;
 use tests::model::blocks::{location_code, number, paint, quadtree, Blocks};
 use tests::model::paths;
-use tests::model::pgm::{self, Read};
-use tests::nettlestair::{self, Picture, Stretch};
+use tests::model::pgm::read_into;
+use tests::nettlestair::{self, Stretch};
 use tests::outlines::random_outline;
+use tests::pictures::sample_bytes;
 use tests::random::Random;
 use tests::rasters;
 
@@ -32,7 +33,7 @@ const FUNCTIONS: [(&str, Try, &[u32]); 10] = [
     ("fuzzing, stretches", cycle, &[0]),
     ("fuzzing, path data", svg, &[0, 8, 16]),
     ("fuzzing, chains read", read_chain, &[0, 8, 17]),
-    ("fuzzing, pictures", read_pgm, &[0, 10, 11, 12, 13, 14]),
+    ("fuzzing, pictures", read_pgm, &[0, 8, 10, 11, 12, 13, 14]),
 ];
 
 #[test]
@@ -99,12 +100,15 @@ fn length(random: &mut Random, need: usize) -> usize {
     }
 }
 
-/// n and a block list, faulty or not.
+/// n and a block list, faulty or not, at times with four siblings whose colours are equal but for one binary digit.
 fn block_list(random: &mut Random) -> (u32, Blocks) {
     let n = side(random);
     let drawn = if n > 8 { 2 } else { n };
     let raster = rasters::any(random, drawn);
     let mut blocks = quadtree(drawn, &raster);
+    if random.below(3) == 0 {
+        faults::split_unlike(random, &mut blocks);
+    }
     for _ in 0..faulty(random) {
         faults::in_blocks(random, &mut blocks);
     }
@@ -132,7 +136,7 @@ fn blocks_from_raster(random: &mut Random, wrong: u32) -> (u32, Option<String>) 
     let drawn = if n > 8 { 2 } else { n };
     let mut raster = rasters::any(random, drawn);
     if random.below(8) == 0 {
-        faults::in_bytes(random, &mut raster, &[0, 1]);
+        faults::in_list(random, &mut raster, &[0, 1]);
     }
     let need = 1 << (2 * drawn);
     let lengths = [need, need, need].map(|need| length(random, need));
@@ -247,7 +251,7 @@ fn read_chain(random: &mut Random, wrong: u32) -> (u32, Option<String>) {
     let outline = random_outline(random, pairs, most);
     let mut digits = paths::chain(&outline);
     for _ in 0..faulty(random) {
-        faults::in_bytes(random, &mut digits, b"0123");
+        faults::in_list(random, &mut digits, b"0123");
     }
     let start = if random.below(9) == 0 { random.word() >> random.below(32) } else { outline[0] };
     let corners = paths::read_chain(start, &digits);
@@ -258,23 +262,25 @@ fn read_chain(random: &mut Random, wrong: u32) -> (u32, Option<String>) {
     (number, difference.map(|d| format!("from {start}, {}, room for {length}: {d}", Shown(&digits))))
 }
 
+/// Pictures of one byte a sample and of two.
 fn read_pgm(random: &mut Random, wrong: u32) -> (u32, Option<String>) {
     let n = [0, 1, 1, 2, 2, 3, 4][random.below(7)];
-    let maxval = [1, 9, 100, 254, 255, 255, 255][random.below(7)];
+    let maxval = [1, 9, 100, 254, 255, 255, 256, 257, 1000, 32_768, 65_534, 65_535, 65_535][random.below(13)];
     let space = [" ", "\n", "\t", "\r\n", "  ", "# 8\n", "#\r"][random.below(7)];
     let side = 1 << n;
-    let raster: Vec<u8> = (0..side * side).map(|_| random.below(maxval + 1) as u8).collect();
+    let raster: Vec<u16> = (0..side * side).map(|_| random.below(maxval + 1) as u16).collect();
     let mut bytes = format!("P5{space}{side}{space}{side}{space}{maxval}\n").into_bytes();
     for _ in 0..faulty(random) {
-        faults::in_bytes(random, &mut bytes, b"P5 \n\t\r0123456789#");
+        faults::in_list(random, &mut bytes, b"P5 \n\t\r0123456789#");
     }
-    bytes.extend(raster);
+    bytes.extend(sample_bytes(maxval as u32, &raster));
     for _ in 0..faulty(random) / 2 {
-        faults::in_bytes(random, &mut bytes, &[0, 255]);
+        faults::in_list(random, &mut bytes, &[0, 255]);
     }
-    let Read { number, n, maxval, start, length } = pgm::read(&bytes);
-    let mut found = nettlestair::read_pgm(&bytes);
-    found.raster.start += wrong as usize;
-    let differs = found != Picture { number, n, maxval, raster: Stretch { start, length } };
-    (number, differs.then(|| format!("{}: {found:?}", Shown(&bytes))))
+    let length = length(random, raster.len());
+    let expected = read_into(&bytes, length);
+    let mut out = PictureOut::call(random, &bytes, length);
+    out.picture.count += wrong;
+    let difference = out.difference(&expected);
+    (expected.number, difference.map(|d| format!("{}, raster of {length}: {d}", Shown(&bytes))))
 }

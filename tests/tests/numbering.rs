@@ -12,7 +12,7 @@ use tests::random::Random;
 use tests::rasters;
 
 /// Numbering of a raster's blocks with lists that are longer than needed by `more`.
-fn numbered(random: &mut Random, n: u32, raster: &[u8], more: [usize; 2]) -> (Blocks, Called<Numbered, 2>) {
+fn numbered(random: &mut Random, n: u32, raster: &[u16], more: [usize; 2]) -> (Blocks, Called<Numbered, 2>) {
     let blocks = quadtree(n, raster);
     let [labels, work, ..] = needs(n, blocks.len());
     let lengths = [labels + more[0], work + more[1]];
@@ -27,7 +27,7 @@ fn numbered(random: &mut Random, n: u32, raster: &[u8], more: [usize; 2]) -> (Bl
 fn dials() {
     let mut cases = Cases::of("numbers of dials");
     let mut random = Random::of("numbers of dials");
-    let rows: [(&str, u32, &[u8], &[u32], u32); 6] = [
+    let rows: [(&str, u32, &[u16], &[u32], u32); 6] = [
         ("1", 0, &[9], &[0], 1),
         ("2", 2, &figures::FIGURE_5B, &[0, 0, 0, 1, 0, 0, 2], 3),
         ("3", 2, &figures::FIGURE_5A, &[0, 0, 0, 1, 0, 0, 1, 0, 0, 1, 0, 0, 1, 0, 0, 0], 2),
@@ -72,19 +72,12 @@ fn structured_and_random_rasters() {
     cases.end();
 }
 
-/// Every raster of 2 by 2 pixels in four colours, and every one of 4 by 4 in two.
 #[test]
 fn small_rasters() {
     let mut cases = Cases::of("numbers of small rasters");
     let mut random = Random::of("numbers of small rasters");
-    for k in 0..4usize.pow(4) {
-        let raster: Vec<u8> = (0..4).map(|i| (k >> (2 * i) & 3) as u8).collect();
-        numbered(&mut random, 1, &raster, [1, 0]);
-        cases.ran();
-    }
-    for k in 0..1usize << 16 {
-        let raster: Vec<u8> = (0..16).map(|i| (k >> i & 1) as u8).collect();
-        numbered(&mut random, 2, &raster, [0, 1]);
+    for (n, raster) in rasters::small() {
+        numbered(&mut random, n, &raster, if n == 1 { [1, 0] } else { [0, 1] });
         cases.ran();
     }
     cases.end();

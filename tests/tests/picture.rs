@@ -10,7 +10,8 @@ use tests::cases::Cases;
 use tests::model::lines::paths;
 use tests::model::pgm::read;
 use tests::model::regions::Regions;
-use tests::programs::{from_rust, pgm, repository, run, samples};
+use tests::pictures::{of_both_widths, pgm};
+use tests::programs::{from_rust, repository, run, samples};
 use tests::random::Random;
 use tests::rasters;
 use tests::svg::{covered, Element};
@@ -54,18 +55,17 @@ struct Expected {
     regions: Regions,
     paths: Vec<String>,
     pixels: Vec<usize>,
-    colours: Vec<u8>,
+    colours: Vec<u16>,
 }
 
 impl Expected {
     fn of(bytes: &[u8]) -> Expected {
         let picture = read(bytes);
         assert_eq!(picture.number, 0, "an accepted picture");
-        let raster = &bytes[picture.start..];
-        let regions = Regions::of(picture.n, raster);
+        let regions = Regions::of(picture.n, &picture.samples);
         let count = regions.count as usize;
         let (mut pixels, mut colours) = (vec![0; count], vec![0; count]);
-        for (i, &colour) in raster.iter().enumerate() {
+        for (i, &colour) in picture.samples.iter().enumerate() {
             let region = regions.at((i % (1 << picture.n)) as i64, (i >> picture.n) as i64).expect("inside") as usize;
             pixels[region] += 1;
             colours[region] = colour;
@@ -161,15 +161,15 @@ fn pictures_read_back() {
     let mut cases = Cases::of("pictures read back");
     let mut random = Random::of("pictures read back");
     let mut pictures: Vec<Vec<u8>> = accepted().map(|(_, bytes)| bytes).collect();
-    assert_eq!(pictures.len(), 8, "the clocks, dials 1 to 5 and the one with a remark");
+    assert_eq!(pictures.len(), 10, "the clocks, dials 1 to 5, the one with a remark and the two of two bytes a sample");
     for n in 0..=6 {
-        pictures.extend(rasters::of_every_kind(&mut random, n).iter().map(|raster| pgm(n, raster)));
+        pictures.extend(rasters::of_every_kind(&mut random, n).iter().flat_map(|raster| of_both_widths(n, raster)));
     }
     for _ in 0..100 {
         let n = random.below(6) as u32;
-        pictures.push(pgm(n, &rasters::any(&mut random, n)));
+        pictures.push(pgm(n, 65_535, &rasters::any(&mut random, n)));
     }
-    pictures.extend(rasters::structured(&mut random, 8).into_iter().map(|(_, raster)| pgm(8, &raster)));
+    pictures.extend(rasters::structured(&mut random, 8).into_iter().map(|(_, raster)| pgm(8, 65_535, &raster)));
     for bytes in pictures {
         let expected = Expected::of(&bytes);
         expected.whole(&made("read-back", &bytes, &[]));
@@ -202,6 +202,25 @@ fn dial_3() {
     cases.end();
 }
 
+/// Dial 2 by hand, in colours of which the second and the third differ from the first in one byte alone.
+#[test]
+fn wide_dial() {
+    let mut cases = Cases::of("picture of a dial in two bytes a sample");
+    let file = run(program(), &["samples/wide-65535.pgm"]).out;
+    for part in [
+        "<title>Region 0: 11 pixels of colour 65535</title>",
+        "d=\"M0 0H4V2H2V1H1V2H2V4H0Z\"/>",
+        "<title>Region 1: 1 pixel of colour 65279</title>",
+        "d=\"M1 1H2V2H1Z\"/>",
+        "<title>Region 2: 4 pixels of colour 65534</title>",
+        "d=\"M2 2H4V4H2Z\"/>",
+    ] {
+        assert_eq!(file.matches(part).count(), 1, "{part} in {file}");
+        cases.ran();
+    }
+    cases.end();
+}
+
 /// What can't be served is said on standard error, and nothing is written.
 #[test]
 fn messages() {
@@ -213,8 +232,8 @@ fn messages() {
         ("README.md", 1, "README.md is refused (10): it is no binary PGM"),
         ("samples/refused-10.pgm", 1, "samples/refused-10.pgm is refused (10): it is no binary PGM"),
         ("samples/refused-11.pgm", 1, "samples/refused-11.pgm is refused (11): width and height are not equal"),
-        ("samples/refused-12.pgm", 1, "samples/refused-12.pgm is refused (12): maxval"),
-        ("samples/refused-13.pgm", 1, "samples/refused-13.pgm is refused (13): the raster"),
+        ("samples/refused-12.pgm", 1, "samples/refused-12.pgm is refused (12): maxval is not from 1 to 65,535"),
+        ("samples/refused-13.pgm", 1, "samples/refused-13.pgm is refused (13): the raster is not exactly"),
         ("samples/refused-14.pgm 0", 1, "samples/refused-14.pgm is refused (14): a sample"),
         ("samples/dial-2.pgm 3", 2, "there is no region 3: the last one is 2"),
         ("samples/dial-2.pgm -1", 2, "-1 is not understood"),

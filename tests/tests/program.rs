@@ -6,6 +6,7 @@ use std::io::Write;
 use std::process::{Command, Stdio};
 use tests::cases::Cases;
 use tests::model::lines;
+use tests::pictures::{of_both_widths, pgm};
 use tests::programs::{repository, run};
 use tests::random::Random;
 use tests::rasters;
@@ -20,7 +21,7 @@ fn printed(input: &[u8]) -> String {
         .unwrap_or_else(|fault| panic!("{}: {fault} (rt check outlines builds it)", program.display()));
     let mut stdin = child.stdin.take().expect("standard input");
     let bytes = input.to_vec();
-    // The program reads at most 8,193 bytes, so that the rest of a longer input has no reader.
+    // The program reads at most 16,385 bytes, so that the rest of a longer input has no reader.
     let writer = std::thread::spawn(move || drop(stdin.write_all(&bytes)));
     let output = child.wait_with_output().expect("the program ends");
     writer.join().expect("the input is handed over");
@@ -83,14 +84,15 @@ fn files() {
     for (name, out, words) in [
         ("samples/dial-2.pgm", "M0 0H4V2H2V1H1V2H2V4H0Z\nM1 1H2V2H1Z\nM2 2H4V4H2Z\n", ""),
         ("samples/remark.pgm", "M0 0H4V4H0ZM1 3H3V1H1Z\nM1 1H3V3H1Z\n", ""),
+        ("samples/wide-65535.pgm", "M0 0H4V2H2V1H1V2H2V4H0Z\nM1 1H2V2H1Z\nM2 2H4V4H2Z\n", ""),
         ("samples/refused-10.pgm", "refused 10\n", "it begins with P2, another kind of Netpbm picture"),
         ("crates.txt", "refused 10\n", "it does not begin with P5"),
         ("samples/refused-remark.pgm", "refused 10\n", "it begins with P5, but what follows is no such header"),
         ("samples/refused-11.pgm", "refused 11\n", "the picture is 3 by 2: "),
-        ("samples/refused-12.pgm", "refused 12\n", "maxval is 256: "),
-        ("samples/refused-13.pgm", "refused 13\n", "the raster is not exactly 2 times 2 bytes: "),
+        ("samples/refused-12.pgm", "refused 12\n", "maxval is 65536: it must be from 1 to 65,535"),
+        ("samples/refused-13.pgm", "refused 13\n", "the raster is not exactly 2 times 2 samples of one byte: "),
         ("samples/refused-14.pgm", "refused 14\n", "a sample is above maxval, which is 9"),
-        ("samples/clock-256.pgm", "refused 15\n", "the input has more than 8,192 bytes: "),
+        ("samples/clock-256.pgm", "refused 15\n", "the input has more than 16,384 bytes: "),
     ] {
         let ran = run(repository("bin/outlines"), &[name]);
         assert_eq!(ran.out, out, "{name}: {}", ran.err);
@@ -100,11 +102,23 @@ fn files() {
         assert!(refusal != words.is_empty(), "{name}: {said}");
         cases.ran();
     }
+    // The clock in two bytes a sample has the outlines of the clock in one.
+    let clock = std::fs::read(repository("samples/clock-64.pgm")).expect("a sample");
+    for name in ["samples/clock-64.pgm", "samples/wide-1000.pgm"] {
+        let ran = run(repository("bin/outlines"), &[name]);
+        assert_eq!((ran.status, ran.out), (Some(0), lines::printed(&clock)), "{name}: {}", ran.err);
+        cases.ran();
+    }
     // The words of a refusal past the header are those of the numbers, not of what remarks say.
     let name = concat!(env!("CARGO_TARGET_TMPDIR"), "/remarks.pgm");
     for (header, words) in [
         ("P5#9 9\n3#x\r2# 7 7\r\n255\n", "the picture is 3 by 2: "),
-        ("P5 # 1\n#2\r2\t#3\n2 # 4\n00256 #", "maxval is 00256: "),
+        ("P5 # 1\n#2\r2\t#3\n2 # 4\n00000 #", "maxval is 00000: it must be from 1 to 65,535"),
+        ("P5 # 1\n#2\r2\t#3\n2 # 4\n65536 #", "maxval is 65536: it must be from 1 to 65,535"),
+        ("P5#1\n2 2#2\n00255 ", "the raster is not exactly 2 times 2 samples of one byte: "),
+        ("P5#1\n2 2#2\n00256 ", "the raster is not exactly 2 times 2 samples of two bytes: "),
+        ("P5#1\n2 2#2\n09000 ", "the raster is not exactly 2 times 2 samples of two bytes: "),
+        ("P5#1\n2 2#2\n00999 #", "a sample is above maxval, which is 00999"),
     ] {
         std::fs::write(name, picture(header, b"#\n12345")).expect("a file is written");
         let ran = run(repository("bin/outlines"), &[name]);
@@ -148,18 +162,27 @@ fn refusals_printed() {
         (picture("P5\n1 2\n255\n", &[1; 2]), 11),
         (picture("P5\n512 512\n0\n", &[]), 11),
         (picture("P5\n1 1\n0\n", &[0]), 12),
-        (picture("P5\n1 1\n256\n", &[0]), 12),
+        (picture("P5\n1 1\n65536\n", &[0, 0]), 12),
         (picture("P5\n1 1\n99999\n", &[]), 12),
         (picture("P5\n1 1\n255\n", &[]), 13),
+        (picture("P5\n1 1\n255\n", &[0, 1]), 13),
         (picture("P5\n1 1\n255\r\n", &[1]), 13),
+        (picture("P5\n1 1\n256\n", &[0]), 13),
+        (picture("P5\n1 1\n256\n", &[0, 0, 0]), 13),
         (picture("P5\n1 1\n9\n", &[10, 10]), 13),
         (picture("P5\n128 128\n255\n", &[1; 4096]), 13),
+        (picture("P5\n64 64\n256\n", &[0; 4096]), 13),
         (picture("P5\n1 1\n9\n", &[10]), 14),
-        (vec![0; 8192], 10),
-        (padded(8192), 13),
-        (vec![0; 8193], 15),
-        (padded(8193), 15),
-        (picture("P5\n128 128\n255\n", &[1; 16384]), 15),
+        (picture("P5\n1 1\n1000\n", &[3, 233]), 14),
+        (vec![0; 16_384], 10),
+        (padded(16_384), 13),
+        // of 128 by 128 pixels not all bytes fit beside the header
+        (picture("P5\n128 128\n255\n", &[1; 16_369]), 13),
+        (vec![0; 16_385], 15),
+        (padded(16_385), 15),
+        (picture("P5\n128 128\n255\n", &[1; 16_370]), 15),
+        (picture("P5\n128 128\n255\n", &[1; 16_384]), 15),
+        (picture("P5 128 128 65535 ", &[1; 32_768]), 15),
         (vec![80; 100_000], 15),
     ];
     for (input, number) in rows {
@@ -169,53 +192,61 @@ fn refusals_printed() {
     cases.end();
 }
 
-/// The largest picture that fits, 64 by 64: one colour; a row each; a pixel each, in rising location code.
+/// The largest picture that fits, 64 by 64, in one byte a sample and in two: one colour; a row each; a pixel each, in rising location
+/// code.
 #[test]
 fn largest_pictures_printed() {
     let mut cases = Cases::of("largest pictures printed");
-    assert_eq!(printed(&picture("P5\n64 64\n255\n", &[7; 4096])), "M0 0H64V64H0Z\n");
-    cases.ran();
+    // two colours: of one byte, then of two bytes that differ in the low one alone, then in the high one alone
+    for (maxval, [one, other]) in [(1, [0, 1]), (65_535, [65_534, 65_535]), (999, [231, 999])] {
+        let traced = |colour: &dyn Fn(usize, usize) -> usize| {
+            let raster: Vec<u16> = (0..4096).map(|i| [one, other][colour(i % 64, i / 64) % 2]).collect();
+            printed(&pgm(6, maxval, &raster))
+        };
+        assert_eq!(traced(&|_, _| 1), "M0 0H64V64H0Z\n");
+        cases.ran();
 
-    let stripes: Vec<u8> = (0..4096).map(|i| (i / 64 % 2) as u8).collect();
-    let text: String = (0..64).map(|y| format!("M0 {y}H64V{}H0Z\n", y + 1)).collect();
-    assert_eq!(printed(&picture("P5\n64 64\n1\n", &stripes)), text);
-    cases.ran();
+        let text: String = (0..64).map(|y| format!("M0 {y}H64V{}H0Z\n", y + 1)).collect();
+        assert_eq!(traced(&|_, y| y), text);
+        cases.ran();
 
-    let board: Vec<u8> = (0..4096).map(|i| ((i + i / 64) % 2) as u8).collect();
-    let even = |code: usize| (0..6).map(|i| (code >> (2 * i) & 1) << i).sum::<usize>();
-    let text: String = (0..4096)
-        .map(|code| (even(code), even(code >> 1)))
-        .map(|(x, y)| format!("M{x} {y}H{}V{}H{x}Z\n", x + 1, y + 1))
-        .collect();
-    assert_eq!(printed(&picture("P5\n64 64\n1\n", &board)), text);
-    cases.ran();
+        let even = |code: usize| (0..6).map(|i| (code >> (2 * i) & 1) << i).sum::<usize>();
+        let text: String = (0..4096)
+            .map(|code| (even(code), even(code >> 1)))
+            .map(|(x, y)| format!("M{x} {y}H{}V{}H{x}Z\n", x + 1, y + 1))
+            .collect();
+        assert_eq!(traced(&|x, y| x + y), text);
+        cases.ran();
+    }
 
-    // Exactly 8,192 bytes, with white space in the header, plain or a remark; and one byte more.
-    for (fill, text) in [(b'\n', "\n64 64 255\n"), (b'#', "\r64 64 255\n")] {
-        for (length, printed_text) in [(8192, "M0 0H64V64H0Z\n"), (8193, "refused 15\n")] {
-            let mut bytes = b"P5".to_vec();
-            bytes.resize(length - 4096 - text.len(), fill);
-            bytes.extend_from_slice(text.as_bytes());
-            bytes.extend_from_slice(&[7; 4096]);
-            assert_eq!(bytes.len(), length);
-            assert_eq!(printed(&bytes), printed_text);
-            cases.ran();
+    // Exactly 16,384 bytes, with white space in the header, plain or a remark; and one byte more.
+    for (fill, size) in [(b'\n', "\n64 64"), (b'#', "\r64 64")] {
+        for (maxval, raster) in [(255, vec![7; 4096]), (65_535, vec![7; 8192])] {
+            for (length, text) in [(16_384, "M0 0H64V64H0Z\n"), (16_385, "refused 15\n")] {
+                let end = picture(&format!("{size} {maxval}\n"), &raster);
+                let mut bytes = b"P5".to_vec();
+                bytes.resize(length - end.len(), fill);
+                bytes.extend_from_slice(&end);
+                assert_eq!(bytes.len(), length);
+                assert_eq!(printed(&bytes), text);
+                cases.ran();
+            }
         }
     }
     cases.end();
 }
 
-/// Rasters of every kind up to 64 by 64 against the separate tracer.
+/// Rasters of every kind up to 64 by 64, in one byte a sample and in two, against the separate tracer.
 #[test]
 fn rasters_printed() {
     let mut cases = Cases::of("rasters printed");
     let mut random = Random::of("rasters printed");
     for n in 0..=6 {
         for raster in rasters::of_every_kind(&mut random, n) {
-            let side = 1 << n;
-            let input = picture(&format!("P5\n{side} {side}\n255\n"), &raster);
-            assert_eq!(printed(&input), lines::printed(&input), "n = {n}");
-            cases.ran();
+            for input in of_both_widths(n, &raster) {
+                assert_eq!(printed(&input), lines::printed(&input), "n = {n}, {} bytes", input.len());
+                cases.ran();
+            }
         }
     }
     cases.end();

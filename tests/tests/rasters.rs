@@ -10,7 +10,7 @@ use tests::rasters;
 
 /// The raster's blocks are the model's quadtree, which the check accepts, and they give the raster again. The lent lists are
 /// longer than needed by `more`, and their tails stay.
-fn there_and_back(random: &mut Random, n: u32, raster: &[u8], more: usize) {
+fn there_and_back(random: &mut Random, n: u32, raster: &[u16], more: usize) {
     let need = raster.len() + more;
     let blocks = quadtree(n, raster);
     let out = BlocksOut::call(random, n, raster, [need, need, need]);
@@ -41,18 +41,8 @@ fn random_rasters_there_and_back() {
 fn small_rasters_there_and_back() {
     let mut cases = Cases::of("small rasters");
     let mut random = Random::of("small rasters");
-    for colour in 0..=255 {
-        there_and_back(&mut random, 0, &[colour], 0);
-        cases.ran();
-    }
-    for k in 0..4usize.pow(4) {
-        let raster: Vec<u8> = (0..4).map(|i| (k >> (2 * i) & 3) as u8).collect();
-        there_and_back(&mut random, 1, &raster, 1);
-        cases.ran();
-    }
-    for k in 0..1usize << 16 {
-        let raster: Vec<u8> = (0..16).map(|i| (k >> i & 1) as u8).collect();
-        there_and_back(&mut random, 2, &raster, 0);
+    for (n, raster) in rasters::small() {
+        there_and_back(&mut random, n, &raster, usize::from(n == 1));
         cases.ran();
     }
     cases.end();

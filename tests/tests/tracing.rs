@@ -33,7 +33,7 @@ impl Outlines {
 }
 
 /// Traces a raster's blocks with lists that are longer than needed by `more`, and takes each outline by its stretch.
-fn traced(random: &mut Random, n: u32, raster: &[u8], more: [usize; 5]) -> Outlines {
+fn traced(random: &mut Random, n: u32, raster: &[u16], more: [usize; 5]) -> Outlines {
     let blocks = quadtree(n, raster);
     let mut lengths = needs(n, blocks.len());
     lengths.iter_mut().zip(more).for_each(|(length, more)| *length += more);
@@ -69,7 +69,7 @@ fn written(random: &mut Random, corners: &[u32]) {
 fn dials() {
     let mut cases = Cases::of("outlines of dials");
     let mut random = Random::of("outlines of dials");
-    let rows: [(&str, u32, &[u8], &[&str]); 6] = [
+    let rows: [(&str, u32, &[u16], &[&str]); 6] = [
         ("1", 0, &[9], &["M0 0H1V1H0Z"]),
         ("2", 2, &figures::FIGURE_5B, &["M0 0H4V2H2V1H1V2H2V4H0Z", "M1 1H2V2H1Z", "M2 2H4V4H2Z"]),
         ("3", 2, &figures::FIGURE_5A, &["M0 0H4V4H0ZM1 3H3V1H1Z", "M1 1H3V3H1Z"]),
@@ -96,7 +96,7 @@ fn dials() {
 fn refused_dials() {
     let mut cases = Cases::of("outlines of refused dials");
     let mut random = Random::of("outlines of refused dials");
-    let rows: [(&str, u32, &[(u32, u8, u8)], u32); 8] = [
+    let rows: [(&str, u32, &[(u32, u8, u16)], u32); 8] = [
         ("6", 1, &[(0, 0, 5), (1, 0, 5), (2, 0, 5), (3, 0, 5)], 7),
         ("7, n=0", 0, &[], 6),
         ("7, n=8", 8, &[], 6),
@@ -169,19 +169,12 @@ fn structured_and_random_rasters() {
     cases.end();
 }
 
-/// Every raster of 2 by 2 pixels in four colours, and every one of 4 by 4 in two.
 #[test]
 fn small_rasters() {
     let mut cases = Cases::of("outlines of small rasters");
     let mut random = Random::of("outlines of small rasters");
-    for k in 0..4usize.pow(4) {
-        let raster: Vec<u8> = (0..4).map(|i| (k >> (2 * i) & 3) as u8).collect();
-        traced(&mut random, 1, &raster, [0, 1, 0, 1, 0]);
-        cases.ran();
-    }
-    for k in 0..1usize << 16 {
-        let raster: Vec<u8> = (0..16).map(|i| (k >> i & 1) as u8).collect();
-        traced(&mut random, 2, &raster, [1, 0, 1, 0, 1]);
+    for (n, raster) in rasters::small() {
+        traced(&mut random, n, &raster, if n == 1 { [0, 1, 0, 1, 0] } else { [1, 0, 1, 0, 1] });
         cases.ran();
     }
     cases.end();

@@ -44,7 +44,13 @@ pub fn check(n: u32, blocks: Blocks) -> u32 {
 }
 
 /// The merged block list of a raster: at each code the block grows while the three squares beside it have its colour.
-pub fn blocks_from_raster(n: u32, raster: &[u8], codes: &mut [u32], levels: &mut [u8], colours: &mut [u8]) -> Written {
+pub fn blocks_from_raster(
+    n: u32,
+    raster: &[u16],
+    codes: &mut [u32],
+    levels: &mut [u8],
+    colours: &mut [u16],
+) -> Written {
     if n > 8 {
         return Written::refused(1);
     }
@@ -69,7 +75,7 @@ pub fn blocks_from_raster(n: u32, raster: &[u8], codes: &mut [u32], levels: &mut
 }
 
 /// The level of the block that starts at a code, whose pixel stands at the place `at`.
-fn level_at(n: u32, raster: &[u8], code: u32, at: usize) -> u32 {
+fn level_at(n: u32, raster: &[u16], code: u32, at: usize) -> u32 {
     let top = n.min(code.trailing_zeros() / 2);
     let side = 1 << n;
     let colour = raster[at];
@@ -85,7 +91,7 @@ fn level_at(n: u32, raster: &[u8], code: u32, at: usize) -> u32 {
 }
 
 /// The raster of a block list.
-pub fn raster_from_blocks(n: u32, blocks: Blocks, raster: &mut [u8]) -> Written {
+pub fn raster_from_blocks(n: u32, blocks: Blocks, raster: &mut [u16]) -> Written {
     let fault = check(n, blocks);
     if fault != 0 {
         return Written::refused(fault);

@@ -6,14 +6,16 @@
 pub mod blocks;
 pub mod location;
 pub mod outlines;
+pub mod pgm;
 pub mod regions;
 
 pub use blocks::{blocks_from_raster, check, raster_from_blocks};
 pub use location::{code, spread_code};
 pub use outlines::trace;
+pub use pgm::read_pgm;
 pub use regions::number;
 
-use crate::nettlestair::{Numbered, Traced, Written};
+use crate::nettlestair::{Numbered, Picture, Traced, Written};
 
 impl Written {
     fn refused(number: u32) -> Written {
@@ -30,5 +32,11 @@ impl Numbered {
 impl Traced {
     fn refused(number: u32) -> Traced {
         Traced { number, regions: 0, cycles: 0, corners: 0 }
+    }
+}
+
+impl Picture {
+    fn refused(number: u32) -> Picture {
+        Picture { number, n: 0, maxval: 0, count: 0 }
     }
 }

@@ -5,7 +5,7 @@ use mathlib.Core.List.{List, [], _∷_}
 use Prim.Native.Nat.{ℕ, suc, _+_, _*_, _/_, _%_, _^_, _≤_, _<_}
 use native.Mathlib.Nat.{div-add-mod'}
 use native.Mathlib.Omega.{arith}
-use lib.Arith.{digits-mod}
+use lib.Arith.{digits-div, digits-mod}
 use lib.ListN.{length, getD, drop, length-drop}
 use lib.Dec.{eqb, ltb}
 use borrow.Author.Tests.{lt-ltb, le-ltb, eq-eqb, ne-eqb, eqb-true}
@@ -24,18 +24,30 @@ unfoldable pub alikeFrom : List ℕ → ℕ → Bool
 unfolding fourAlike
 alikeFrom list i = fourAlike (getD list i 0) (getD list (i + 1) 0) (getD list (i + 2) 0) (getD list (i + 3) 0)
 
--- The four entries from the place i on as digits to the base 256.
-pub record Digits (list : List ℕ) (i : ℕ) : Type 0 where
-  pub first : getD list i 0 < 256
-  pub second : getD list (i + 1) 0 < 256
-  pub third : getD list (i + 2) 0 < 256
-  pub fourth : getD list (i + 3) 0 < 256
+-- The four entries from the place i on as digits to a base.
+pub record Digits (base : ℕ) (list : List ℕ) (i : ℕ) : Type 0 where
+  pub first : getD list i 0 < base
+  pub second : getD list (i + 1) 0 < base
+  pub third : getD list (i + 2) 0 < base
+  pub fourth : getD list (i + 3) 0 < base
 
--- They are equal exactly where their number is the first times 1 + 256 + 256^2 + 256^3.
-pub four-digits-alike : {list : List ℕ} {i : ℕ} → Digits list i
-    → eqb (getD list i 0 + 256 * getD list (i + 1) 0 + 65536 * getD list (i + 2) 0 + 16777216 * getD list (i + 3) 0) (16843009 * getD list i 0) ≡ alikeFrom list i
+-- The number of four digits, the first worth 1.
+abbrev pub numberOf : ℕ → ℕ → ℕ → ℕ → ℕ → ℕ
+numberOf base a b c d = ((d * base + c) * base + b) * base + a
+
+-- A number has one last digit, and one number stands before it.
+one-last-digit : {base : ℕ} (x y : ℕ) {a b : ℕ} → a < base → b < base → x * base + a ≡ y * base + b → (x ≡ y) × (a ≡ b)
+one-last-digit {base} x y a-digit b-digit e = (
+  sym (digits-div x a-digit) ∙ ap (λ (k : ℕ). k / base) e ∙ digits-div y b-digit,
+  sym (digits-mod x a-digit) ∙ ap (λ (k : ℕ). k % base) e ∙ digits-mod y b-digit,
+)
+
+-- Four digits are equal exactly where their number is that of the first four times.
+pub four-digits-alike : {base : ℕ} {list : List ℕ} {i number same : ℕ} → Digits base list i
+    → number ≡ numberOf base (getD list i 0) (getD list (i + 1) 0) (getD list (i + 2) 0) (getD list (i + 3) 0)
+    → same ≡ numberOf base (getD list i 0) (getD list i 0) (getD list i 0) (getD list i 0) → eqb number same ≡ alikeFrom list i
 unfolding alikeFrom fourAlike
-four-digits-alike {list} {i} digits = same-test (eqb number (16843009 * a)) (eqb b a && (eqb c a && eqb d a)) to from
+four-digits-alike {base} {list} {i} {number} {same} digits is-number is-same = same-test (eqb number same) (eqb b a && (eqb c a && eqb d a)) to from
   where
     a : ℕ
     a = getD list i 0
@@ -49,27 +61,19 @@ four-digits-alike {list} {i} digits = same-test (eqb number (16843009 * a)) (eqb
     d : ℕ
     d = getD list (i + 3) 0
 
-    number : ℕ
-    number = a + 256 * b + 65536 * c + 16777216 * d
-
-    last-digit : (x y z : ℕ) → x + 256 * y ≡ a + 256 * z → x < 256 → x ≡ a
-    last-digit x y z e h =
-        let low-x : (x + 256 * y) % 256 ≡ x = omega arith in
-        let low-a : (a + 256 * z) % 256 ≡ a = omega (arith, digits .first) in
-        sym low-x ∙ ap (λ (k : ℕ). k % 256) e ∙ low-a
-
-    to : eqb number (16843009 * a) ≡ true → eqb b a && (eqb c a && eqb d a) ≡ true
+    to : eqb number same ≡ true → eqb b a && (eqb c a && eqb d a) ≡ true
     to h =
-        let e : number ≡ 16843009 * a = eqb-true number (16843009 * a) h in
-        let same-b : b ≡ a = last-digit b (c + 256 * d) (257 * a) (omega arith) (digits .second) in
-        let same-c : c ≡ a = last-digit c d a (omega arith) (digits .third) in
-        both-and (eqb b a) (eqb c a && eqb d a) (eq-eqb b a same-b) (both-and (eqb c a) (eqb d a) (eq-eqb c a same-c) (eq-eqb d a (omega arith)))
+        let e : numberOf base a b c d ≡ numberOf base a a a a = sym is-number ∙ eqb-true number same h ∙ is-same in
+        let above-a = one-last-digit ((d * base + c) * base + b) ((a * base + a) * base + a) (digits .first) (digits .first) e .0 in
+        let (above-b, same-b) = one-last-digit (d * base + c) (a * base + a) (digits .second) (digits .first) above-a in
+        let (same-d, same-c) = one-last-digit d a (digits .third) (digits .first) above-b in
+        both-and (eqb b a) (eqb c a && eqb d a) (eq-eqb b a same-b) (both-and (eqb c a) (eqb d a) (eq-eqb c a same-c) (eq-eqb d a same-d))
 
-    from : eqb b a && (eqb c a && eqb d a) ≡ true → eqb number (16843009 * a) ≡ true
+    from : eqb b a && (eqb c a && eqb d a) ≡ true → eqb number same ≡ true
     from h =
         let one = and-both (eqb b a) (eqb c a && eqb d a) h in
         let two = and-both (eqb c a) (eqb d a) (one .1) in
-        eq-eqb number (16843009 * a) (omega (arith, eqb-true b a (one .0), eqb-true c a (two .0), eqb-true d a (two .1)))
+        eq-eqb number same (is-number ∙ rw (eqb-true b a (one .0), eqb-true c a (two .0), eqb-true d a (two .1)) (sym is-same))
 
 -- Whether the four blocks from the place i on are siblings.
 unfoldable pub siblingsFrom : ℕ → List ℕ → List ℕ → List ℕ → ℕ → Bool

@@ -51,20 +51,33 @@ pub(crate) fn cover(n: u32, codes: &[u32], levels: &[u8]) -> u32
     0
 }
 
-// Whether the four entries from i on are equal: asked of them as the digits of one number, one test instead of three.
-fn four_alike(list: &[u8], i: usize) -> bool
-    requires { ⌜ i + 3 < length (now list) ⌝ }
-    ensures { λ r. ⌜ r ≡ alikeFrom (now (list .entry)) i ⌝ }
+// Whether the four levels from i on are equal: asked of them as the digits of one number, one test instead of three.
+fn levels_alike(levels: &[u8], i: usize) -> bool
+    requires { ⌜ i + 3 < length (now levels) ⌝ }
+    ensures { λ r. ⌜ r ≡ alikeFrom (now (levels .entry)) i ⌝ }
 {
-    let first = list[i] as u32;
-    let second = list[i + 1] as u32;
-    let third = list[i + 2] as u32;
-    let fourth = list[i + 3] as u32;
+    let first = levels[i] as u32;
+    let second = levels[i + 1] as u32;
+    let third = levels[i + 2] as u32;
+    let fourth = levels[i + 3] as u32;
     first + 256 * second + 65536 * third + 16777216 * fourth == 16843009 * first
 }
 
+// Whether the four colours from i on are equal, asked in the same way.
+fn colours_alike(colours: &[u16], i: usize) -> bool
+    requires { ⌜ i + 3 < length (now colours) ⌝ }
+    ensures { λ r. ⌜ r ≡ alikeFrom (now (colours .entry)) i ⌝ }
+{
+    let first = colours[i] as u64;
+    let second = colours[i + 1] as u64;
+    let third = colours[i + 2] as u64;
+    let fourth = colours[i + 3] as u64;
+    first + 65536 * second + 4294967296 * third + 281474976710656 * fourth
+        == 281479271743489 * first
+}
+
 // How many blocks from i on begin no four siblings of one colour, as far as one look tells; 0 where such four begin at i.
-fn stride(n: u32, codes: &[u32], levels: &[u8], colours: &[u8], i: usize) -> usize
+fn stride(n: u32, codes: &[u32], levels: &[u8], colours: &[u16], i: usize) -> usize
     requires { ⌜ (n ≤ 8) × EqualLengths (now codes) (now levels) (now colours) × (i + 3 < length (now codes)) ⌝ }
     ensures { λ r. ⌜ r ≡ strideAt n (now (codes .entry)) (now (levels .entry)) (now (colours .entry)) i ⌝ }
 {
@@ -75,17 +88,17 @@ fn stride(n: u32, codes: &[u32], levels: &[u8], colours: &[u8], i: usize) -> usi
     if location::alignment(codes[i]) <= level {
         return 1;
     }
-    if !four_alike(levels, i) {
+    if !levels_alike(levels, i) {
         return 1;
     }
-    if four_alike(colours, i) {
+    if colours_alike(colours, i) {
         return 0;
     }
     4
 }
 
 // Cause 7 anywhere in a list that covers its image.
-pub(crate) fn siblings(n: u32, codes: &[u32], levels: &[u8], colours: &[u8]) -> bool
+pub(crate) fn siblings(n: u32, codes: &[u32], levels: &[u8], colours: &[u16]) -> bool
     requires { ⌜ Covered n (now codes) (now levels) (now colours) ⌝ }
     ensures { λ r. ⌜ r ≡ siblings n (blocks (now (codes .entry)) (now (levels .entry)) (now (colours .entry))) ⌝ }
 {

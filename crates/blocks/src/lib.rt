@@ -5,7 +5,7 @@ ghost use Rattle.quadtree.specs.Number.{number};
 mod covering;
 
 // The number of a block list, 0 where it is accepted: causes 1 to 7 in the document's order.
-pub fn check(n: u32, codes: &[u32], levels: &[u8], colours: &[u8]) -> u32
+pub fn check(n: u32, codes: &[u32], levels: &[u8], colours: &[u16]) -> u32
     ensures { λ r. ⌜ r ≡ number n (now (codes .entry)) (now (levels .entry)) (now (colours .entry)) ⌝ }
 {
     if 8 < n {

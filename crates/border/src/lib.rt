@@ -10,7 +10,7 @@ ghost use Rattle.border.specs.BorderSpans.{Joinable, BorderSpan, SpanJoi
 ghost use Rattle.border.specs.Walk.{Walkable, Walked, Storable};
 
 // Joins the blocks b and k if their colours are equal. Where b is `last` that is done already.
-fn join_alike(colours: &[u8], parents: &mut [u32], last: u32, b: u32, k: u32)
+fn join_alike(colours: &[u16], parents: &mut [u32], last: u32, b: u32, k: u32)
     requires { ⌜ Joinable (now colours) (now parents) last b k ⌝ }
     ensures { λ _. ⌜ Forest (now (parents .entry)) (joinIfAlike (now (colours .entry)) (root (now (parents .entry))) b k) (now (parents .exit)) ⌝ }
 {
@@ -29,7 +29,7 @@ fn join_span(
     entries: &[u32],
     from: usize,
     s: usize,
-    colours: &[u8],
+    colours: &[u16],
     k: u32,
     parents: &mut [u32],
 )
@@ -51,7 +51,7 @@ fn join_span(
 }
 
 // The same for a single pixel, whose one neighbour the entry `at` names: no loop.
-fn join_one(z: usize, entries: &[u32], at: usize, colours: &[u8], k: u32, parents: &mut [u32])
+fn join_one(z: usize, entries: &[u32], at: usize, colours: &[u16], k: u32, parents: &mut [u32])
     requires { ⌜ BorderSpan z (now entries) at 1 (now colours) k (now parents) ⌝ }
     ensures { λ _. ⌜ SpanJoined z (now (entries .entry)) at 1 (now (colours .entry)) k (now (parents .entry)) (now (parents .exit)) ⌝ }
 {
@@ -69,7 +69,7 @@ fn join_spans(
     x: usize,
     y: usize,
     s: usize,
-    colours: &[u8],
+    colours: &[u16],
     k: u32,
     parents: &mut [u32],
 )
@@ -104,7 +104,7 @@ pub fn walk(
     n: u32,
     codes: &[u32],
     levels: &[u8],
-    colours: &[u8],
+    colours: &[u16],
     parents: &mut [u32],
     work: &mut [u32],
 )

@@ -6,7 +6,7 @@ ghost use Rattle.drawing.specs.Outlines.{imageText};
 ghost use Rattle.drawing.specs.Picturing.{RasterFits, Traceable};
 
 // The lines of an accepted block list.
-fn write_outlines(n: u32, codes: &[u32], levels: &[u8], colours: &[u8], text: &mut [u8]) -> usize
+fn write_outlines(n: u32, codes: &[u32], levels: &[u8], colours: &[u16], text: &mut [u8]) -> usize
     requires { ⌜ Traceable n (now codes) (now levels) (now colours) (now text) ⌝ }
     ensures { λ r. ⌜ Put (imageText n (paint (blocks (now (codes .entry)) (now (levels .entry)) (now (colours .entry)))))
         (now (text .entry)) (now (text .exit)) r ⌝ }
@@ -31,13 +31,13 @@ fn write_outlines(n: u32, codes: &[u32], levels: &[u8], colours: &[u8], text: &m
 }
 
 // The lines of a raster: it is merged to blocks, and their outlines are written.
-pub fn write_picture(n: u32, raster: &[u8], text: &mut [u8]) -> usize
+pub fn write_picture(n: u32, raster: &[u16], text: &mut [u8]) -> usize
     requires { ⌜ RasterFits n (now raster) (now text) ⌝ }
     ensures { λ r. ⌜ Put (imageText n (inCodeOrder n (now (raster .entry)))) (now (text .entry)) (now (text .exit)) r ⌝ }
 {
     let mut codes = [0u32; 4096];
     let mut levels = [0u8; 4096];
-    let mut colours = [0u8; 4096];
+    let mut colours = [0u16; 4096];
     let merged = merging::from_raster(n, raster, &mut codes, &mut levels, &mut colours);
     let count = merged.count as usize;
     write_outlines(

@@ -10,7 +10,7 @@ ghost use Rattle.tracing.specs.Tracing.{lent, Tracing};
 ghost use Rattle.stretches.specs.Stretch.{Place};
 ghost use Rattle.svg.specs.Svg.{Svg};
 ghost use Rattle.chains.specs.ChainForm.{ChainRead};
-ghost use Rattle.pgm.specs.Picture.{Answered};
+ghost use Rattle.pgm.specs.Reading.{Reading};
 
 // The number of an answer, 0 for acceptance, and how many entries were written.
 #[repr(C)]
@@ -42,14 +42,13 @@ pub struct Stretch {
     pub length: usize,
 }
 
-// What the reader of pictures answers: the number, n, maxval and the stretch of the bytes that is the raster.
+// What the reader of pictures answers: the number, n, maxval and how many samples were written.
 #[repr(C)]
 pub struct Picture {
     pub number: u32,
     pub n: u32,
     pub maxval: u32,
-    pub start: usize,
-    pub length: usize,
+    pub count: u32,
 }
 
 #[no_mangle]
@@ -60,7 +59,7 @@ pub extern "C" fn nettlestair_code(x: u16, y: u16) -> u32
 }
 
 #[no_mangle]
-pub extern "C" fn nettlestair_check(n: u32, codes: &[u32], levels: &[u8], colours: &[u8]) -> u32
+pub extern "C" fn nettlestair_check(n: u32, codes: &[u32], levels: &[u8], colours: &[u16]) -> u32
     ensures { λ r. ⌜ r ≡ number n (now (codes .entry)) (now (levels .entry)) (now (colours .entry)) ⌝ }
 {
     blocks::check(n, codes, levels, colours)
@@ -69,10 +68,10 @@ pub extern "C" fn nettlestair_check(n: u32, codes: &[u32], levels: &[u8], colour
 #[no_mangle]
 pub extern "C" fn nettlestair_blocks_from_raster(
     n: u32,
-    raster: &[u8],
+    raster: &[u16],
     codes: &mut [u32],
     levels: &mut [u8],
-    colours: &mut [u8],
+    colours: &mut [u16],
 ) -> Written
     ensures { λ r. ⌜ FromRaster n (now (raster .entry))
         (now (codes .entry)) (now (levels .entry)) (now (colours .entry))
@@ -91,8 +90,8 @@ pub extern "C" fn nettlestair_raster_from_blocks(
     n: u32,
     codes: &[u32],
     levels: &[u8],
-    colours: &[u8],
-    raster: &mut [u8],
+    colours: &[u16],
+    raster: &mut [u16],
 ) -> Written
     ensures { λ r. ⌜ ToRaster n (now (codes .entry)) (now (levels .entry)) (now (colours .entry))
         (now (raster .entry)) (now (raster .exit))
@@ -110,7 +109,7 @@ pub extern "C" fn nettlestair_number(
     n: u32,
     codes: &[u32],
     levels: &[u8],
-    colours: &[u8],
+    colours: &[u16],
     labels: &mut [u32],
     work: &mut [u32],
 ) -> Numbered
@@ -130,7 +129,7 @@ pub extern "C" fn nettlestair_trace(
     n: u32,
     codes: &[u32],
     levels: &[u8],
-    colours: &[u8],
+    colours: &[u16],
     labels: &mut [u32],
     work: &mut [u32],
     owners: &mut [u32],
@@ -195,16 +194,15 @@ pub extern "C" fn nettlestair_read_chain(start: u32, chain: &[u8], corners: &mut
 }
 
 #[no_mangle]
-pub extern "C" fn nettlestair_read_pgm(bytes: &[u8]) -> Picture
-    ensures { λ r. ⌜ Answered (now (bytes .entry)) (now (bytes .exit))
-        (record { number = r .number; n = r .n; maxval = r .maxval; start = r .start; length = r .length }) ⌝ }
+pub extern "C" fn nettlestair_read_pgm(bytes: &[u8], raster: &mut [u16]) -> Picture
+    ensures { λ r. ⌜ Reading (now (bytes .entry)) (now (raster .entry)) (now (bytes .exit)) (now (raster .exit))
+        (record { number = r .number; n = r .n; maxval = r .maxval; count = r .count }) ⌝ }
 {
-    let found = pgm::read(bytes);
+    let found = pgm::read(bytes, raster);
     Picture {
         number: found.number,
         n: found.n,
         maxval: found.maxval,
-        start: found.start,
-        length: found.length,
+        count: found.count,
     }
 }

@@ -2,7 +2,7 @@
 use mathlib.Core.Path.{_≡_, refl, sym, ap, _∙_}
 use mathlib.Core.Logic.{_↔_}
 use mathlib.Core.List.{List, [], _∷_, _++_, append-assoc}
-use Prim.Native.Nat.{ℕ, _-_, _≤_}
+use Prim.Native.Nat.{ℕ, _-_, _<_}
 use native.Mathlib.Omega.{arith}
 use lib.ListN.{length, drop, length-append}
 use lib.Seq.{drop-at}
@@ -45,7 +45,9 @@ unfolding front
 front-raster x = x .layout ∙ simp append-assoc
 
 module _ (bytes raster : List ℕ) (f : Fields) (x : File bytes f raster) where
-  pub raster-short : length raster ≤ length bytes
+  -- A header stands before it.
+  pub raster-short : length raster < length bytes
+  unfolding front
   raster-short = omega (arith, ap length (front-raster x), length-append (front x) raster)
 
   pub raster-at-end : drop (length bytes - length raster) bytes ≡ raster

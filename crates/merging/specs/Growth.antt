@@ -5,6 +5,7 @@ use mathlib.Core.List.{List}
 use Prim.Native.Nat.{ℕ, _+_, _%_, _^_, _≤_, _<_}
 use native.Mathlib.Omega.{arith}
 use lib.ListN.{length, getD}
+use Rattle.sequences.specs.Powers.{pow4-mono}
 use Rattle.location.specs.Levels.{topLevel, sideOf, side-is-power}
 use Rattle.location.specs.TopLevels.{top-level-fits, level-divides}
 use Rattle.location.specs.Places.{placeOf}
@@ -32,6 +33,9 @@ module _ {n : ℕ} {raster : List ℕ} {c : ℕ} (whole : RasterOf n raster) (in
 
   pub place-read : {at : ℕ} → at ≡ place n c → at < length raster
   place-read {at} e = omega (arith, e, place-in n c, whole .whole)
+
+  pub place-low : {at : ℕ} → at ≡ place n c → at < 65536
+  place-low {at} e = omega (arith, place-read e, whole .whole, pow4-mono (whole .small))
 
   pub growth-none : {top w at v : ℕ} → top ≡ topLevel n c → w ≡ sideOf n → at ≡ place n c → v ≡ getD raster at 0 → Growth n raster c top w at v 0
   growth-none {top} {w} {at} {v} et ew ea ev = record {

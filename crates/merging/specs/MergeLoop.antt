@@ -75,6 +75,7 @@ pub record FourTurn (raster codes₁ levels₁ colours₁ : List ℕ) (count c a
   pub in-levels : count + 3 < length levels₁
   pub in-colours : count + 3 < length colours₁
   pub in-raster : at + w + 1 < length raster
+  pub low : at + w + 1 < 65536
   pub on : c + 4 ≤ length raster
 
 map-one-more : {A : Type 0} (f : A → ℕ) (l : List A) (b : A) → map f (l ++ (b ∷ [])) ≡ map f l ++ (f b ∷ [])
@@ -206,6 +207,7 @@ module _ {n : ℕ} {raster codes₀ levels₀ colours₀ : List ℕ} (room : Blo
       in-levels = omega (arith, four-inside, m .few, room .for-levels, m .levels-long);
       in-colours = omega (arith, four-inside, m .few, room .for-colours, m .colours-long);
       in-raster = omega (arith, ea, wide, places .southeast, place-in n (c + 3), room .whole);
+      low = omega (arith, ea, wide, places .southeast, place-in n (c + 3), pow4-mono (room .small));
       on = omega (arith, four-inside, room .whole);
     }
 

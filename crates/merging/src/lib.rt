@@ -16,10 +16,10 @@ fn least(a: usize, b: usize) -> usize
 // A raster, row by row, to the block list of its quadtree.
 pub fn from_raster(
     n: u32,
-    raster: &[u8],
+    raster: &[u16],
     codes: &mut [u32],
     levels: &mut [u8],
-    colours: &mut [u8],
+    colours: &mut [u16],
 ) -> Written
     ensures { λ r. ⌜ FromRaster n (now (raster .entry))
         (now (codes .entry)) (now (levels .entry)) (now (colours .entry))

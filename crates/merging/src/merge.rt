@@ -11,7 +11,7 @@ ghost use Rattle.merging.specs.MergeLoop.{RasterOf, BlocksFit, Merged};
 
 // The level of the block that starts at the code c: it grows while the three squares beside it have its colour, up to
 // the level that the zeros ending the code leave open.
-fn level_at(n: u32, raster: &[u8], c: u32) -> u32
+fn level_at(n: u32, raster: &[u16], c: u32) -> u32
     requires { ⌜ RasterOf n (now raster) × (c < 4 ^ n) ⌝ }
     ensures { λ r. ⌜ r ≡ blockFrom n (inCodeOrder n (now (raster .entry))) c .level ⌝ }
 {
@@ -40,14 +40,25 @@ fn store_codes(codes: &mut [u32], at: usize, c: u32)
     codes[at + 3] = c + 3;
 }
 
+// Writes the levels of four single pixels.
+fn store_levels(levels: &mut [u8], at: usize)
+    requires { ⌜ at + 3 < length (now levels) ⌝ }
+    ensures { λ _. ⌜ now (levels .exit) ≡ fourStored 2 at 0 0 0 0 (now (levels .entry)) ⌝ }
+{
+    levels[at] = 0;
+    levels[at + 1] = 0;
+    levels[at + 2] = 0;
+    levels[at + 3] = 0;
+}
+
 // Writes the blocks of the raster and returns their number. Single pixels come by fours from a multiple of 4 on, written at
 // once.
 pub(crate) fn merge(
     n: u32,
-    raster: &[u8],
+    raster: &[u16],
     codes: &mut [u32],
     levels: &mut [u8],
-    colours: &mut [u8],
+    colours: &mut [u16],
 ) -> usize
     requires { ⌜ BlocksFit n (now raster) (now codes) (now levels) (now colours) ⌝ }
     ensures { λ r. ⌜ Merged n (now (raster .entry))
@@ -64,7 +75,7 @@ pub(crate) fn merge(
         if level + code % 4 == 0 {
             if 0 < n {
                 store_codes(codes, count, code);
-                store_four(levels, 2, count, 0, 0, 0, 0);
+                store_levels(levels, count);
                 store_four(
                     colours,
                     2,

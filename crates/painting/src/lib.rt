@@ -5,7 +5,13 @@ ghost use Rattle.painting.specs.Promise.{ToRaster};
 mod paint;
 
 // A block list to its raster, row by row.
-pub fn to_raster(n: u32, codes: &[u32], levels: &[u8], colours: &[u8], raster: &mut [u8]) -> Written
+pub fn to_raster(
+    n: u32,
+    codes: &[u32],
+    levels: &[u8],
+    colours: &[u16],
+    raster: &mut [u16],
+) -> Written
     ensures { λ r. ⌜ ToRaster n (now (codes .entry)) (now (levels .entry)) (now (colours .entry)) (now (raster .entry)) (now (raster .exit)) r ⌝ }
 {
     let fault = blocks::check(n, codes, levels, colours);

@@ -10,7 +10,7 @@ ghost use Rattle.squares.specs.BlockByBlock.{Paintable};
 ghost use Rattle.painting.specs.Promise.{imageOver};
 
 // Gives the s pixels from the place `from` on the colour v.
-fn fill_run(raster: &mut [u8], from: usize, s: usize, v: u8)
+fn fill_run(raster: &mut [u16], from: usize, s: usize, v: u16)
     requires { ⌜ from + s ≤ length (now raster) ⌝ }
     ensures { λ _. ⌜ now (raster .exit) ≡ fill (now (raster .entry)) from s v ⌝ }
 {
@@ -23,7 +23,7 @@ fn fill_run(raster: &mut [u8], from: usize, s: usize, v: u8)
 }
 
 // Gives the square of s rows of s pixels at the place `at`, in rows of w, the colour v. The many of side 2 take no loop.
-fn fill_square(raster: &mut [u8], w: usize, at: usize, s: usize, v: u8)
+fn fill_square(raster: &mut [u16], w: usize, at: usize, s: usize, v: u16)
     requires { ⌜ (w ≤ 256) × RowsFit (length (now raster)) w at s s ⌝ }
     ensures { λ _. ⌜ RowsFilled w at s s v (now (raster .entry)) (now (raster .exit)) ⌝ }
 {
@@ -41,7 +41,7 @@ fn fill_square(raster: &mut [u8], w: usize, at: usize, s: usize, v: u8)
 }
 
 // Paints the image of an accepted list, row by row. Single pixels come by fours from a multiple of 4 on, painted at once.
-pub(crate) fn paint(n: u32, codes: &[u32], levels: &[u8], colours: &[u8], raster: &mut [u8])
+pub(crate) fn paint(n: u32, codes: &[u32], levels: &[u8], colours: &[u16], raster: &mut [u16])
     requires { ⌜ Paintable n (now codes) (now levels) (now colours) (now raster) ⌝ }
     ensures { λ _. ⌜ now (raster .exit) ≡ imageOver n (now (codes .entry)) (now (levels .entry)) (now (colours .entry)) (now (raster .entry)) ⌝ }
 {

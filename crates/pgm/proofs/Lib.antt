@@ -1,3 +1,3 @@
--- Laws of the two loops.
-pub mod Maxval
+-- Laws of the loops.
 pub mod Search
+pub mod Sampling

@@ -6,7 +6,7 @@ use native.Mathlib.Numerals.{add-one}
 use native.Mathlib.Omega.{arith}
 use Rattle.sequences.specs.Powers.{pow2-mono}
 use Rattle.pgm.specs.Exponent.{exponentFrom, exponent, from-here, from-next}
-use Rattle.pgm.specs.declared.samples.PowerOfTwo.{PowerOfTwo}
+use Rattle.pgm.specs.declared.shape.PowerOfTwo.{PowerOfTwo}
 
 pub record Searching (width n power : ℕ) : Type 0 where
   pub small : n ≤ 9

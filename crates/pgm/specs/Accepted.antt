@@ -1,136 +1,70 @@
 -- Accepted pictures: what number 0 says of a file, and the other way round; and what a refusal says.
-use mathlib.Core.Path.{_≡_, refl, sym, ap, _∙_, subst⁻¹}
-use mathlib.Core.Bool.{Bool, true, false, false≢true, and-eq-true-iff}
-use mathlib.Core.Logic.{_⊎_, inl, inr, ⊎-elim}
-use mathlib.Core.List.{List, [], _∷_}
-use Prim.Native.Nat.{ℕ, zero, suc, _*_, _-_, _^_, _≤_, _<_}
+use mathlib.Core.Path.{_≡_, refl, sym, ap, ap₂, _∙_, subst}
+use mathlib.Core.Bool.{Bool, true, false, not}
+use mathlib.Core.Logic.{_⊎_, inl, inr}
+use mathlib.Core.List.{List}
+use Prim.Native.Nat.{ℕ, _*_, _^_, _≤_, _<_}
 use native.Mathlib.Omega.{arith}
-use borrow.Author.Tests.{leb-true, eqb-true}
-use lib.Dec.{leb, eqb}
-use lib.ListN.{length, take, getD}
-use lib.Seq.{take-length}
-use Rattle.headers.specs.Parser.{Parsed, refused, got, next, demand}
+use lib.Dec.{eqb}
+use lib.ListN.{length, getD}
+use borrow.Author.Tests.{eq-eqb}
+use Rattle.sequences.specs.Powers.{square-of-side}
+use Rattle.headers.specs.Parser.{Parsed, refused, got, next}
 use Rattle.headers.specs.Header.{Fields, header}
-use Rattle.pgm.specs.Exponent.{exponent, sideNumber, sideN, exponent-power, exponent-of-power}
-use Rattle.pgm.specs.Picture.{square, ranged, filled, within, judged, picture, refusal, said, answer, stretch}
-use Rattle.pgm.specs.PictureLaws.{within-more, no-cause, said-refused}
 use Rattle.headers.specs.File.{File}
-use Rattle.headers.specs.Layout.{not-got, next-on}
-use Rattle.headers.specs.FileLaws.{header-is-file, file-is-header, header-10, bad-header-exactly, raster-at-end}
-use Rattle.pgm.specs.declared.Picture.{Picture}
-use Rattle.pgm.specs.declared.samples.PowerOfTwo.{PowerOfTwo}
+use Rattle.headers.specs.Layout.{next-on}
+use Rattle.headers.specs.FileLaws.{header-is-file, file-is-header, header-10}
+use Rattle.pgm.specs.Exponent.{exponent-of-power}
+use Rattle.pgm.specs.Samples.{isWide, sampleBytes, samplesOf, anyAbove, length-samples, each-at-most, none-above}
+use Rattle.pgm.specs.Picture.{judged, picture, Scan, nothing, said, scan}
+use Rattle.pgm.specs.Shaped.{shaped, size-right, not-outside, refused-11-to-13}
+use Rattle.pgm.specs.Scans.{refused-scan, shape-scan, facts, above-scan, held-scan}
+use Rattle.pgm.specs.declared.shape.Shape.{Shape}
 
--- A file of side 2^n, n from 0 to 8, with maxval from 1 to 255, a raster of exactly width times height bytes, and no sample above maxval.
+-- A file of side 2^n, n from 0 to 8, with maxval from 1 to 65,535. Behind the header stand the bytes of 4^n samples, at their width, and
+-- nothing else. The raster is these samples, and none is above maxval.
 pub record AcceptedPicture (bytes : List ℕ) (n maxval : ℕ) (raster : List ℕ) : Type 0 where
-  pub file : File bytes (record { width = 2 ^ n; height = 2 ^ n; maxval = maxval }) raster
+  pub rest : List ℕ
+  pub file : File bytes (record { width = 2 ^ n; height = 2 ^ n; maxval = maxval }) rest
   pub side : n ≤ 8
   pub low : 1 ≤ maxval
-  pub high : maxval ≤ 255
-  pub full : length raster ≡ 2 ^ n * 2 ^ n
-  pub samples : (i : ℕ) → i < length raster → getD raster i 0 ≤ maxval
+  pub high : maxval ≤ 65535
+  pub full : length rest ≡ sampleBytes (isWide maxval) * 4 ^ n
+  pub samples : raster ≡ samplesOf (isWide maxval) (4 ^ n) rest
+  pub at-most : (i : ℕ) → i < 4 ^ n → getD raster i 0 ≤ maxval
 
--- The test of the samples says what it should of each.
-within-parts : (m b : ℕ) (raster : List ℕ) → within m (b ∷ raster) ≡ true → (b ≤ m) × (within m raster ≡ true)
-unfolding within
-within-parts m b raster e = pick (leb b m) refl e
-  where
-    pick : (t : Bool) → leb b m ≡ t → elim t as (λ x. Bool) [ true ↦ within m raster | false ↦ false ] ≡ true → (b ≤ m) × (within m raster ≡ true)
-    pick true h e = (leb-true b m h, e)
-    pick false h e = absurd (false≢true e)
+-- What a file holds.
+pub file-scan : (bytes rest : List ℕ) (f : Fields) → File bytes f rest → scan bytes ≡ said (judged f rest)
+unfolding scan picture
+file-scan bytes rest f x = ap said (next-on (file-is-header bytes rest f x) judged)
 
-within-each : (m : ℕ) (raster : List ℕ) → within m raster ≡ true → (i : ℕ) → i < length raster → getD raster i 0 ≤ m
-within-each m [] e i h = absurd (omega arith)
-within-each m (b ∷ raster) e zero h = within-parts m b raster e .0
-within-each m (b ∷ raster) e (suc i) h = within-each m raster (within-parts m b raster e .1) i (omega arith)
+-- A bad header.
+pub bad-scan : (bytes : List ℕ) → header bytes ≡ refused 10 → scan bytes ≡ nothing 10
+unfolding scan picture next
+bad-scan bytes e = refused-scan (ap (λ (p : Parsed Fields). next p judged) e)
 
-each-within : (m : ℕ) (raster : List ℕ) → ((i : ℕ) → i < length raster → getD raster i 0 ≤ m) → within m raster ≡ true
-unfolding within
-each-within m [] h = refl
-each-within m (b ∷ raster) h = within-more m b raster (h 0 (omega arith)) ∙ each-within m raster (λ i l. h (suc i) (omega arith))
-
--- A test that was demanded and passed.
-demand-passed : {A : Type 0} {a : A} {rest : List ℕ} (k : ℕ) (t : Bool) (then : Parsed A) → demand k t then ≡ got a rest → (t ≡ true) × (then ≡ got a rest)
-unfolding demand
-demand-passed k true then e = (refl, e)
-demand-passed k false then e = absurd (not-got e)
-
--- What a file is answered.
-pub file-answer : (bytes raster : List ℕ) (f : Fields) → File bytes f raster → answer bytes ≡ said bytes (judged f raster)
-unfolding answer picture
-file-answer bytes raster f x = ap (said bytes) (next-on (file-is-header bytes raster f x) judged)
-
--- What is no file is answered 10.
-pub no-file-answer : (bytes : List ℕ) → ((f : Fields) (raster : List ℕ) → File bytes f raster → ⊥) → answer bytes ≡ refusal 10
-unfolding answer picture next said
-no-file-answer bytes d = ap (λ p. said bytes (next p judged)) (bad-header-exactly bytes .1 d)
-
--- An accepted picture gives n, maxval and the stretch that is the raster.
-module _ (bytes raster : List ℕ) (n m : ℕ) (a : AcceptedPicture bytes n m raster) where
-  pub accepted-answer : _≡_ {A = Picture} (answer bytes) (record { number = 0; n = n; maxval = m; start = length bytes - length raster; length = length raster })
-  unfolding said
-  accepted-answer =
-      let power : exponent (2 ^ n) ≡ PowerOfTwo.Power n = exponent-of-power n (a .side) in
-      let f : Fields = record { width = 2 ^ n; height = 2 ^ n; maxval = m } in
-      file-answer bytes raster f (a .file)
-      ∙ ap (said bytes) (no-cause f raster refl power (a .low) (a .high) (a .full) (each-within m raster (a .samples)))
-      ∙ rw power refl
-
-  pub accepted-stretch : stretch bytes ≡ raster
-  unfolding stretch
-  accepted-stretch =
-      rw accepted-answer (ap (take (length raster)) (raster-at-end bytes raster _ (a .file)) ∙ take-length raster)
-
--- Each file that passes is accepted.
-made-accepted : {bytes raster : List ℕ} {n w h m : ℕ} → File bytes (record { width = w; height = h; maxval = m }) raster → 2 ^ n ≡ w → w ≡ h
-    → n ≤ 8 → 1 ≤ m → m ≤ 255 → length raster ≡ w * h → within m raster ≡ true → AcceptedPicture bytes n m raster
-made-accepted {bytes} {raster} {n} {w} {h} {m} x power equal side low high full each =
-    record {
-      file = subst⁻¹ (λ (a : ℕ). File bytes (record { width = a; height = 2 ^ n; maxval = m }) raster) power
-          (subst⁻¹ (λ (b : ℕ). File bytes (record { width = w; height = b; maxval = m }) raster) (power ∙ equal) x);
-      side = side;
-      low = low;
-      high = high;
-      full = full ∙ rw (power, equal) refl;
-      samples = within-each m raster each;
-    }
-
-passed-accepted : (bytes raster rest : List ℕ) (f g : Fields) → File bytes f raster → judged f raster ≡ got g rest
-    → AcceptedPicture bytes (sideN (exponent (f .width))) (f .maxval) raster
-unfolding judged square ranged filled
-passed-accepted bytes raster rest f g x e =
-    let (s, e1) = demand-passed 11 (square f) _ e in
-    let (r, e2) = demand-passed 12 (ranged f) _ e1 in
-    let (l, e3) = demand-passed 13 (filled f raster) _ e2 in
-    let (w, e4) = demand-passed 14 (within (f .maxval) raster) _ e3 in
-    let (equal, found) = and-eq-true-iff (eqb (f .width) (f .height)) (eqb (sideNumber (exponent (f .width))) 0) .0 s in
-    let (low, high) = and-eq-true-iff (leb 1 (f .maxval)) (leb (f .maxval) 255) .0 r in
-    let (power, side) = exponent-power (f .width) (eqb-true _ 0 found) in
-    made-accepted x power (eqb-true (f .width) (f .height) equal) side (leb-true 1 _ low) (leb-true _ 255 high)
-    (eqb-true (length raster) (f .width * f .height) l) w
-
--- A refusal past the header is one of 11 to 14.
-demand-refused : {A : Type 0} {j : ℕ} (k : ℕ) (t : Bool) (then : Parsed A) → demand k t then ≡ refused j → (j ≡ k) ⊎ (then ≡ refused j)
-unfolding demand
-demand-refused k true then e = inr e
-demand-refused k false then e = inl (cc)
-
-judged-refused : (raster : List ℕ) (f : Fields) (j : ℕ) → judged f raster ≡ refused j → (11 ≤ j) × (j ≤ 14)
-unfolding judged
-judged-refused raster f j e =
-    ⊎-elim (λ h. omega arith)
-    (λ e1. ⊎-elim (λ h. omega arith)
-    (λ e2. ⊎-elim (λ h. omega arith)
-    (λ e3. ⊎-elim (λ h. omega arith) (λ e4. absurd (not-got (sym e4))) (demand-refused 14 (within (f .maxval) raster) _ e3))
-    (demand-refused 13 (filled f raster) _ e2))
-    (demand-refused 12 (ranged f) _ e1))
-    (demand-refused 11 (square f) _ e)
+-- An accepted picture holds n, maxval and the samples.
+pub accepted-scan : (bytes raster : List ℕ) (n maxval : ℕ) → AcceptedPicture bytes n maxval raster
+    → scan bytes ≡ record { number = 0; n = n; maxval = maxval; raster = raster }
+accepted-scan bytes raster n maxval a =
+    let f : Fields = record { width = 2 ^ n; height = 2 ^ n; maxval = maxval } in
+    let whole : 2 ^ n * 2 ^ n ≡ 4 ^ n = square-of-side n in
+    let size : length (a .rest) ≡ sampleBytes (isWide maxval) * (2 ^ n * 2 ^ n) = a .full ∙ ap (λ (k : ℕ). sampleBytes (isWide maxval) * k) (sym whole) in
+    let test : not (eqb (length (a .rest)) (sampleBytes (isWide maxval) * (2 ^ n * 2 ^ n))) ≡ false = ap not (eq-eqb _ _ size) in
+    let shape = sym (size-right f (length (a .rest)) refl (exponent-of-power n (a .side)) (not-outside f (a .low) (a .high)) test) in
+    let same : samplesOf (isWide maxval) (2 ^ n * 2 ^ n) (a .rest) ≡ raster = ap (λ (k : ℕ). samplesOf (isWide maxval) k (a .rest)) whole ∙ sym (a .samples) in
+    let long : length raster ≡ 4 ^ n = ap length (a .samples) ∙ length-samples (isWide maxval) (4 ^ n) (a .rest) in
+    let none : anyAbove maxval raster ≡ false = none-above maxval raster (λ i h. a .at-most i (omega (arith, long))) in
+    file-scan bytes (a .rest) f (a .file)
+    ∙ held-scan f (a .rest) shape (ap (anyAbove maxval) same ∙ none)
+    ∙ ap (λ (l : List ℕ). record { number = 0; n = n; maxval = maxval; raster = l }) same
 
 -- Each list of bytes is an accepted picture or is refused by a cause of the table, 10 to 14.
 pub record Refused (bytes : List ℕ) : Type 0 where
   pub number : ℕ
   pub least : 10 ≤ number
   pub most : number ≤ 14
-  pub says : answer bytes ≡ refusal number
+  pub says : scan bytes ≡ nothing number
 
 pub record Passed (bytes : List ℕ) : Type 0 where
   pub n : ℕ
@@ -138,17 +72,48 @@ pub record Passed (bytes : List ℕ) : Type 0 where
   pub raster : List ℕ
   pub accepted : AcceptedPicture bytes n maxval raster
 
+module _ (bytes rest : List ℕ) (f : Fields) (x : File bytes f rest) where
+  -- What passes 11 to 14 is accepted.
+  passed : {n count : ℕ} {wide : Bool} → shaped f (length rest) ≡ Shape.Samples n count wide → anyAbove (f .maxval) (samplesOf wide count rest) ≡ false → Passed bytes
+  passed {n} {count} {wide} e none =
+      let s = facts f rest e in
+      let same : samplesOf wide count rest ≡ samplesOf (isWide (f .maxval)) (4 ^ n) rest = ap₂ (λ (t : Bool) (k : ℕ). samplesOf t k rest) (s .wide-is) (s .square-is) in
+      let at : _≡_ {A = Fields} f (record { width = 2 ^ n; height = 2 ^ n; maxval = f .maxval }) = λ i. record { width = s .width-is i; height = s .height-is i; maxval = f .maxval } in
+      record {
+        n = n;
+        maxval = f .maxval;
+        raster = samplesOf wide count rest;
+        accepted = record {
+          rest = rest;
+          file = subst (λ (g : Fields). File bytes g rest) at x;
+          side = s .side;
+          low = s .low;
+          high = s .high;
+          full = s .full ∙ ap₂ (λ (t : Bool) (k : ℕ). sampleBytes t * k) (s .wide-is) (s .square-is);
+          samples = same;
+          at-most = λ i h. each-at-most (f .maxval) (samplesOf wide count rest) none i (omega (arith, length-samples wide count rest, s .square-is));
+        };
+      }
+
+  refused-as : {k : ℕ} → (10 ≤ k) × (k ≤ 14) → said (judged f rest) ≡ nothing k → Refused bytes
+  refused-as {k} range e = record { number = k; least = range .0; most = range .1; says = file-scan bytes rest f x ∙ e }
+
+  by-shape : Passed bytes ⊎ Refused bytes
+  by-shape = go (shaped f (length rest)) refl
+    where
+      go : (s : Shape) → shaped f (length rest) ≡ s → Passed bytes ⊎ Refused bytes
+      go (Shape.Refused k) e =
+          let r = refused-11-to-13 f (length rest) e in
+          inr (refused-as (omega (arith, r .0), omega (arith, r .1)) (shape-scan f rest e))
+      go (Shape.Samples n count wide) e = pick (anyAbove (f .maxval) (samplesOf wide count rest)) refl
+        where
+          pick : (t : Bool) → anyAbove (f .maxval) (samplesOf wide count rest) ≡ t → Passed bytes ⊎ Refused bytes
+          pick true h = inr (refused-as (omega arith, omega arith) (above-scan f rest e h))
+          pick false h = inl (passed e h)
+
 pub accepted-or-refused : (bytes : List ℕ) → Passed bytes ⊎ Refused bytes
 accepted-or-refused bytes = go (header bytes) refl
   where
-    judge : (f : Fields) (raster : List ℕ) → File bytes f raster → (q : Parsed Fields) → judged f raster ≡ q → Passed bytes ⊎ Refused bytes
-    judge f raster x (refused k) e =
-        let (least, most) = judged-refused raster f k e in
-        inr (record { number = k; least = omega arith; most = most; says = file-answer bytes raster f x ∙ sym (said-refused bytes (judged f raster) k e) })
-    judge f raster x (got g rest) e = inl (record { n = _; maxval = _; raster = raster; accepted = passed-accepted bytes raster rest f g x e })
-
     go : (p : Parsed Fields) → header bytes ≡ p → Passed bytes ⊎ Refused bytes
-    go (refused k) e =
-        let ten = header-10 bytes k e in
-        inr (record { number = 10; least = omega arith; most = omega arith; says = no-file-answer bytes (bad-header-exactly bytes .0 (e ∙ ap refused ten)) })
-    go (got f raster) e = judge f raster (header-is-file bytes raster f e) (judged f raster) refl
+    go (refused k) e = inr (record { number = 10; least = omega arith; most = omega arith; says = bad-scan bytes (e ∙ ap refused (header-10 bytes k e)) })
+    go (got f rest) e = by-shape bytes rest f (header-is-file bytes rest f e)

@@ -1,143 +1,232 @@
--- Laws for callers: what the two promises say of an accepted picture and of a refused one.
-use mathlib.Core.Path.{_≡_, refl, sym, ap, _∙_}
-use mathlib.Core.Logic.{_↔_, ⊎-elim}
+-- Laws for callers: what the promise of `read` says of an accepted picture and of a refused one.
+use mathlib.Core.Path.{_≡_, refl, sym, ap, ap₂, _∙_, subst}
+use mathlib.Core.Bool.{Bool, true, false}
+use mathlib.Core.Logic.{_⊎_, inl, inr, _↔_, ⊎-elim}
 use mathlib.Core.List.{List, []}
-use Prim.Native.Nat.{ℕ, _+_, _-_, _^_, _≤_, _<_}
+use Prim.Native.Nat.{ℕ, zero, suc, _+_, _*_, _-_, _^_, _≤_, _<_}
+use native.Mathlib.Decide.{ℕ-discrete, decLt}
 use native.Mathlib.Omega.{arith}
-use denote.Ref.{RefT, now}
-use lib.ListN.{length, take, drop, getD, length-take, length-drop}
+use lib.ListN.{length, take, getD}
 use lib.Seq.{getD-take, getD-drop}
-use Rattle.sequences.specs.Powers.{square-of-side}
-use Rattle.pgm.specs.Picture.{refusal, answer, stretch, Answered, HandedBack}
-use Rattle.headers.specs.FileLaws.{raster-short}
-use Rattle.pgm.specs.Accepted.{AcceptedPicture, Passed, Refused, accepted-answer, accepted-stretch, accepted-or-refused}
+use borrow.Author.Tests.{le-ltb, lt-ltb}
+use Rattle.sequences.specs.Over.{over, take-over, over-inside, over-beyond, length-over}
+use Rattle.headers.specs.FileLaws.{raster-at-end}
+use Rattle.pgm.specs.Samples.{isWide, sampleBytes, sampleAt, length-samples, samples-at, one-byte, two-bytes}
+use Rattle.pgm.specs.Picture.{Scan, nothing, scan}
+use Rattle.pgm.specs.Reading.{refusal, answerWith, answer, Answered, Reading, cause-answered, short-answered, stored-answered, all-written, answer-accepted}
+use Rattle.pgm.specs.Accepted.{AcceptedPicture, Passed, Refused, accepted-scan, accepted-or-refused}
 use Rattle.pgm.specs.declared.Picture.{Picture}
 
+-- What a file holds, by its number.
 module _ (bytes : List ℕ) where
-  passed-answer : (p : Passed bytes)
-      → _≡_ {A = Picture} (answer bytes) (record { number = 0; n = p .n; maxval = p .maxval; start = length bytes - length (p .raster); length = length (p .raster) })
-  passed-answer p = accepted-answer bytes (p .raster) (p .n) (p .maxval) (p .accepted)
-
-  passed-stretch : (p : Passed bytes) → stretch bytes ≡ p .raster
-  passed-stretch p = accepted-stretch bytes (p .raster) (p .n) (p .maxval) (p .accepted)
-
   -- Number 0 is said of accepted pictures alone.
-  pub zero-accepted : answer bytes .number ≡ 0 → AcceptedPicture bytes (answer bytes .n) (answer bytes .maxval) (stretch bytes)
-  unfolding refusal
+  pub zero-accepted : scan bytes .number ≡ 0 → AcceptedPicture bytes (scan bytes .n) (scan bytes .maxval) (scan bytes .raster)
+  unfolding nothing
   zero-accepted z = ⊎-elim passed refused (accepted-or-refused bytes)
     where
-      passed : Passed bytes → AcceptedPicture bytes (answer bytes .n) (answer bytes .maxval) (stretch bytes)
-      passed p = rw (passed-answer p, passed-stretch p) (p .accepted)
+      passed : Passed bytes → AcceptedPicture bytes (scan bytes .n) (scan bytes .maxval) (scan bytes .raster)
+      passed p = rw (accepted-scan bytes (p .raster) (p .n) (p .maxval) (p .accepted)) (p .accepted)
 
-      refused : Refused bytes → AcceptedPicture bytes (answer bytes .n) (answer bytes .maxval) (stretch bytes)
-      refused r = absurd (omega (arith, z, ap (λ (p : Picture). p .number) (r .says), r .least))
+      refused : Refused bytes → AcceptedPicture bytes (scan bytes .n) (scan bytes .maxval) (scan bytes .raster)
+      refused r = absurd (omega (arith, z, ap (λ (s : Scan). s .number) (r .says), r .least))
 
-  pub zero-exactly : answer bytes .number ≡ 0 ↔ Passed bytes
+  pub zero-exactly : scan bytes .number ≡ 0 ↔ Passed bytes
   zero-exactly = (
-    λ z. record { n = answer bytes .n; maxval = answer bytes .maxval; raster = stretch bytes; accepted = zero-accepted z },
-    λ p. ap (λ (q : Picture). q .number) (passed-answer p),
+    λ z. record { n = scan bytes .n; maxval = scan bytes .maxval; raster = scan bytes .raster; accepted = zero-accepted z },
+    λ p. ap (λ (s : Scan). s .number) (accepted-scan bytes (p .raster) (p .n) (p .maxval) (p .accepted)),
   )
 
-  -- Any other number is a refusal by one of the causes 10 to 14: zeros, and the empty stretch at 0.
-  pub refused-number : (answer bytes .number ≡ 0 → ⊥) → (10 ≤ answer bytes .number) × (answer bytes .number ≤ 14)
-  unfolding refusal
+  -- Any other number is a refusal by one of the causes 10 to 14.
+  pub refused-number : (scan bytes .number ≡ 0 → ⊥) → (10 ≤ scan bytes .number) × (scan bytes .number ≤ 14)
+  unfolding nothing
   refused-number d = ⊎-elim passed refused (accepted-or-refused bytes)
     where
-      passed : Passed bytes → (10 ≤ answer bytes .number) × (answer bytes .number ≤ 14)
-      passed p = absurd (d (ap (λ (q : Picture). q .number) (passed-answer p)))
+      passed : Passed bytes → (10 ≤ scan bytes .number) × (scan bytes .number ≤ 14)
+      passed p = absurd (d (zero-exactly .1 p))
 
-      refused : Refused bytes → (10 ≤ answer bytes .number) × (answer bytes .number ≤ 14)
+      refused : Refused bytes → (10 ≤ scan bytes .number) × (scan bytes .number ≤ 14)
       refused r = rw (r .says) (r .least, r .most)
 
-  pub refused-zeros : (answer bytes .number ≡ 0 → ⊥) → answer bytes ≡ refusal (answer bytes .number)
-  unfolding refusal
-  refused-zeros d = ⊎-elim passed refused (accepted-or-refused bytes)
+  -- An accepted picture has 4^n samples.
+  pub raster-is-square : scan bytes .number ≡ 0 → length (scan bytes .raster) ≡ 4 ^ scan bytes .n
+  raster-is-square z = let a = zero-accepted z in ap length (a .samples) ∙ length-samples (isWide (scan bytes .maxval)) (4 ^ scan bytes .n) (a .rest)
+
+-- What a caller of `read` knows of its answer and of the raster.
+module _ {bytes lent bytes′ lent′ : List ℕ} {r : Picture} (p : Reading bytes lent bytes′ lent′ r) where
+  a : Answered (scan bytes) lent lent′ r
+  a = p .answered
+
+  -- The four answers: 10 to 14, then 8, then acceptance.
+  module _ {raster″ : List ℕ} {q : Picture} (b : Answered (scan bytes) lent raster″ q) where
+    same-answer : r ≡ q
+    same-answer = a .answer-is ∙ sym (b .answer-is)
+
+    same-raster : lent′ ≡ raster″
+    same-raster = a .in-raster ∙ sym (b .in-raster)
+
+  -- A file that is refused: its number, zeros, and the raster as it was, however long it is.
+  pub file-refused : (scan bytes .number ≡ 0 → ⊥) → (r ≡ refusal (scan bytes .number)) × (lent′ ≡ lent)
+  file-refused d =
+      let n = refused-number bytes d in
+      let b = cause-answered (scan bytes) lent {k = scan bytes .number} (omega (arith, n .0)) refl in
+      (same-answer b, same-raster b)
+
+  module _ (z : scan bytes .number ≡ 0) where
+    -- "8 for the raster comes after 14": a picture, and a raster of fewer than 4^n entries.
+    pub raster-too-short : length lent < 4 ^ scan bytes .n → (r ≡ refusal 8) × (lent′ ≡ lent)
+    raster-too-short h = let b = short-answered (scan bytes) lent z h in (same-answer b, same-raster b)
+
+    -- "The reader now writes its samples into a lent raster of 4^n entries".
+    pub samples-written : 4 ^ scan bytes .n ≤ length lent
+        → (r ≡ record { number = 0; n = scan bytes .n; maxval = scan bytes .maxval; count = 4 ^ scan bytes .n }) × (lent′ ≡ over (scan bytes .raster) lent)
+    unfolding answerWith
+    samples-written h =
+        let b = stored-answered (scan bytes) lent z h {raster′ = over (scan bytes .raster) lent} refl in (
+          same-answer b ∙ ap (λ (k : ℕ). record { number = 0; n = scan bytes .n; maxval = scan bytes .maxval; count = k }) (raster-is-square bytes z),
+          same-raster b,
+        )
+
+  -- Which of them it is, is told by the file and by the length of the raster.
+  pub data Case : Type 0 where
+    refused : (scan bytes .number ≡ 0 → ⊥) → Case
+    short : scan bytes .number ≡ 0 → length lent < 4 ^ scan bytes .n → Case
+    written : scan bytes .number ≡ 0 → 4 ^ scan bytes .n ≤ length lent → Case
+
+  which : Case
+  which = go (ℕ-discrete (scan bytes .number) 0) (decLt (length lent) (4 ^ scan bytes .n))
     where
-      passed : Passed bytes → answer bytes ≡ refusal (answer bytes .number)
-      passed p = absurd (d (ap (λ (q : Picture). q .number) (passed-answer p)))
+      go : Dec (scan bytes .number ≡ 0) → Dec (length lent < 4 ^ scan bytes .n) → Case
+      go (no d) t = refused d
+      go (yes z) (yes h) = short z h
+      go (yes z) (no h) = written z (omega arith)
 
-      refused : Refused bytes → answer bytes ≡ refusal (answer bytes .number)
-      refused r = rw (r .says) refl
+  number-of : {q : Picture} → r ≡ q → r .number ≡ q .number
+  number-of e = ap (λ (x : Picture). x .number) e
 
-  pub refused-stretch : (answer bytes .number ≡ 0 → ⊥) → stretch bytes ≡ []
-  unfolding refusal stretch
-  refused-stretch d = rw (refused-zeros d) refl
-
-  -- The stretch lies inside the bytes, and where the picture is accepted it is their end.
-  pub stretch-inside : answer bytes .start + answer bytes .length ≤ length bytes
+  -- A raster that is long enough for any picture in the file leaves the file's own number.
+  pub number-of-file : (scan bytes .number ≡ 0 → 4 ^ scan bytes .n ≤ length lent) → r .number ≡ scan bytes .number
   unfolding refusal
-  stretch-inside = ⊎-elim passed refused (accepted-or-refused bytes)
+  number-of-file enough = go which
     where
-      passed : Passed bytes → answer bytes .start + answer bytes .length ≤ length bytes
-      passed p =
-          rw (passed-answer p)
-          (omega (arith, raster-short bytes (p .raster) _ (p .accepted .file)))
+      go : Case → r .number ≡ scan bytes .number
+      go (refused e) = number-of (file-refused e .0)
+      go (short z h) = absurd (omega (arith, enough z))
+      go (written z h) = number-of (samples-written z h .0) ∙ sym z
 
-      refused : Refused bytes → answer bytes .start + answer bytes .length ≤ length bytes
-      refused r = rw (r .says) (omega arith)
+  -- A refusal: its number with zeros, the raster as it was, and the number is 8 or one of 10 to 14.
+  module _ (d : r .number ≡ 0 → ⊥) where
+    pub refusal-leaves-raster : (r ≡ refusal (r .number)) × (lent′ ≡ lent)
+    unfolding refusal
+    refusal-leaves-raster = go which
+      where
+        told : {k : ℕ} → (r ≡ refusal k) × (lent′ ≡ lent) → (r ≡ refusal (r .number)) × (lent′ ≡ lent)
+        told x = (x .0 ∙ ap refusal (sym (number-of (x .0))), x .1)
 
-  pub stretch-length : length (stretch bytes) ≡ answer bytes .length
-  unfolding stretch
-  stretch-length = omega (arith, length-take (answer bytes .length) (drop (answer bytes .start) bytes), length-drop (answer bytes .start) bytes, stretch-inside)
+        go : Case → (r ≡ refusal (r .number)) × (lent′ ≡ lent)
+        go (refused e) = told (file-refused e)
+        go (short z h) = told (raster-too-short z h)
+        go (written z h) = absurd (d (number-of (samples-written z h .0)))
 
-  pub stretch-at : (i : ℕ) → i < answer bytes .length → getD (stretch bytes) i 0 ≡ getD bytes (answer bytes .start + i) 0
-  unfolding stretch
-  stretch-at i h = getD-take (answer bytes .length) (drop (answer bytes .start) bytes) i 0 h ∙ getD-drop (answer bytes .start) bytes i 0
+    pub refusal-numbers : (r .number ≡ 8) ⊎ (10 ≤ r .number) × (r .number ≤ 14)
+    unfolding refusal
+    refusal-numbers = go which
+      where
+        go : Case → (r .number ≡ 8) ⊎ (10 ≤ r .number) × (r .number ≤ 14)
+        go (refused e) = let n = number-of (file-refused e .0) in let s = refused-number bytes e in inr (omega (arith, n, s .0), omega (arith, n, s .1))
+        go (short z h) = inl (number-of (raster-too-short z h .0))
+        go (written z h) = absurd (d (number-of (samples-written z h .0)))
 
-  pub stretch-ends : answer bytes .number ≡ 0 → answer bytes .start + answer bytes .length ≡ length bytes
-  unfolding refusal
-  stretch-ends z = ⊎-elim passed refused (accepted-or-refused bytes)
-    where
-      passed : Passed bytes → answer bytes .start + answer bytes .length ≡ length bytes
-      passed p =
-          rw (passed-answer p)
-          (omega (arith, raster-short bytes (p .raster) _ (p .accepted .file)))
+  -- An accepted picture: the samples stand at the front of the raster, and what lies beyond them is unchanged.
+  module _ (z : r .number ≡ 0) where
+    fits : (scan bytes .number ≡ 0) × (4 ^ scan bytes .n ≤ length lent)
+    unfolding refusal
+    fits = go which
+      where
+        go : Case → (scan bytes .number ≡ 0) × (4 ^ scan bytes .n ≤ length lent)
+        go (refused e) = absurd (e (sym (number-of (file-refused e .0)) ∙ z))
+        go (short y h) = absurd (omega (arith, z, number-of (raster-too-short y h .0)))
+        go (written y h) = (y, h)
 
-      refused : Refused bytes → answer bytes .start + answer bytes .length ≡ length bytes
-      refused r = absurd (omega (arith, z, ap (λ (p : Picture). p .number) (r .says), r .least))
+    answer-is : r ≡ record { number = 0; n = scan bytes .n; maxval = scan bytes .maxval; count = 4 ^ scan bytes .n }
+    answer-is = samples-written (fits .0) (fits .1) .0
 
--- What `read` says of any file: its stretch lies inside the bytes, and is the raster.
-module _ (bytes after : List ℕ) (r : Picture) (a : Answered bytes after r) where
-  pub part-inside : r .start + r .length ≤ length bytes
-  part-inside = rw (a .answered) (stretch-inside bytes)
+    pub n-is : r .n ≡ scan bytes .n
+    n-is = ap (λ (q : Picture). q .n) answer-is
 
-  pub part-is-stretch : take (r .length) (drop (r .start) bytes) ≡ stretch bytes
-  unfolding stretch
-  part-is-stretch = ap (λ (p : Picture). take (p .length) (drop (p .start) bytes)) (a .answered)
+    pub front-is : take (r .count) lent′ ≡ scan bytes .raster
+    front-is =
+        ap₂ take (ap (λ (q : Picture). q .count) answer-is ∙ sym (raster-is-square bytes (fits .0))) (samples-written (fits .0) (fits .1) .1)
+        ∙ take-over (scan bytes .raster) lent
 
--- What it says of an accepted picture: n at most 8, 4^n samples up to the end of the bytes, none above maxval.
-module _ (bytes after : List ℕ) (r : Picture) (a : Answered bytes after r) (z : r .number ≡ 0) where
-  pub accepted : AcceptedPicture bytes (r .n) (r .maxval) (stretch bytes)
-  accepted = rw (a .answered) (zero-accepted bytes (ap (λ (p : Picture). p .number) (sym (a .answered)) ∙ z))
+    pub accepted : AcceptedPicture bytes (r .n) (r .maxval) (take (r .count) lent′)
+    accepted = rw (front-is, answer-is) (zero-accepted bytes (fits .0))
 
-  pub side-at-most-8 : r .n ≤ 8
-  side-at-most-8 = accepted .side
+    pub side-at-most-8 : r .n ≤ 8
+    side-at-most-8 = accepted .side
 
-  pub maxval-in-range : (1 ≤ r .maxval) × (r .maxval ≤ 255)
-  maxval-in-range = (accepted .low, accepted .high)
+    pub maxval-in-range : (1 ≤ r .maxval) × (r .maxval ≤ 65535)
+    maxval-in-range = (accepted .low, accepted .high)
 
-  pub length-is-square : r .length ≡ 4 ^ r .n
-  length-is-square =
-      ap (λ (p : Picture). p .length) (a .answered) ∙ sym (stretch-length bytes) ∙ accepted .full ∙ square-of-side (r .n)
+    pub count-is-square : r .count ≡ 4 ^ r .n
+    count-is-square = rw answer-is refl
 
-  pub ends-the-bytes : r .start + r .length ≡ length bytes
-  ends-the-bytes = rw (a .answered) (stretch-ends bytes (ap (λ (p : Picture). p .number) (sym (a .answered)) ∙ z))
+    pub raster-long-enough : 4 ^ r .n ≤ length lent
+    raster-long-enough = rw answer-is (fits .1)
 
-  pub samples-at-most-maxval : (i : ℕ) → i < 4 ^ r .n → getD bytes (r .start + i) 0 ≤ r .maxval
-  samples-at-most-maxval i h =
-      let long : length (stretch bytes) ≡ 4 ^ r .n = accepted .full ∙ square-of-side (r .n) in
-      let e : getD bytes (r .start + i) 0 ≡ getD (stretch bytes) i 0 =
-      ap (λ (p : Picture). getD bytes (p .start + i) 0) (a .answered) ∙ sym (stretch-at bytes i (omega (arith, stretch-length bytes, long)))
-      in
-      omega (arith, e, accepted .samples i (omega (arith, long)))
+    entry-is : (i : ℕ) → i < 4 ^ r .n → getD lent′ i 0 ≡ sampleAt (isWide (r .maxval)) (accepted .rest) i
+    entry-is i h =
+        let many : i < r .count = omega (arith, count-is-square) in
+        sym (getD-take (r .count) lent′ i 0 many)
+        ∙ ap (λ (l : List ℕ). getD l i 0) (accepted .samples)
+        ∙ samples-at (isWide (r .maxval)) (4 ^ r .n) (accepted .rest) i h
 
-  -- What `raster` hands back then.
-  module _ (lent after′ part : RefT (List ℕ)) (same : now lent ≡ bytes) (b : HandedBack lent after′ part) where
-    handed : now part ≡ stretch bytes
-    handed = b .handed ∙ ap stretch same
+    -- The bytes behind the header are the last ones of the file.
+    rest-at : (k : ℕ) → getD (accepted .rest) k 0 ≡ getD bytes (length bytes - sampleBytes (isWide (r .maxval)) * 4 ^ r .n + k) 0
+    rest-at k =
+        ap (λ (l : List ℕ). getD l k 0) (sym (raster-at-end bytes (accepted .rest) _ (accepted .file)))
+        ∙ getD-drop (length bytes - length (accepted .rest)) bytes k 0
+        ∙ ap (λ (size : ℕ). getD bytes (length bytes - size + k) 0) (accepted .full)
 
-    pub raster-is-square : length (now part) ≡ 4 ^ r .n
-    raster-is-square = ap length handed ∙ accepted .full ∙ square-of-side (r .n)
+    -- Up to a maxval of 255 a sample is one byte.
+    pub one-byte-samples : r .maxval ≤ 255 → (i : ℕ) → i < 4 ^ r .n → getD lent′ i 0 ≡ getD bytes (length bytes - 4 ^ r .n + i) 0
+    unfolding isWide sampleAt
+    one-byte-samples low i h =
+        let narrow : isWide (r .maxval) ≡ false = le-ltb 255 (r .maxval) low in
+        let size : sampleBytes (isWide (r .maxval)) * 4 ^ r .n ≡ 4 ^ r .n = ap (λ (k : ℕ). k * 4 ^ r .n) (one-byte narrow) ∙ omega arith in
+        entry-is i h ∙ ap (λ (t : Bool). sampleAt t (accepted .rest) i) narrow ∙ rest-at i ∙ ap (λ (s : ℕ). getD bytes (length bytes - s + i) 0) size
 
-    pub raster-at-most-maxval : (i : ℕ) → i < length (now part) → getD (now part) i 0 ≤ r .maxval
-    raster-at-most-maxval = rw handed (accepted .samples)
+    -- "For maxval above 255 a sample is two bytes, the most significant first".
+    pub two-byte-samples : 255 < r .maxval → (i : ℕ) → i < 4 ^ r .n
+        → let start = length bytes - 2 * 4 ^ r .n in getD lent′ i 0 ≡ 256 * getD bytes (start + 2 * i) 0 + getD bytes (start + (2 * i + 1)) 0
+    unfolding isWide sampleAt
+    two-byte-samples above i h =
+        let wide : isWide (r .maxval) ≡ true = lt-ltb 255 (r .maxval) above in
+        let size : sampleBytes (isWide (r .maxval)) * 4 ^ r .n ≡ 2 * 4 ^ r .n = ap (λ (k : ℕ). k * 4 ^ r .n) (two-bytes wide) in
+        entry-is i h
+        ∙ ap (λ (t : Bool). sampleAt t (accepted .rest) i) wide
+        ∙ ap₂ (λ (a b : ℕ). 256 * a + b) (rest-at (2 * i)) (rest-at (2 * i + 1))
+        ∙ ap (λ (s : ℕ). 256 * getD bytes (length bytes - s + 2 * i) 0 + getD bytes (length bytes - s + (2 * i + 1)) 0) size
+
+    pub samples-at-most-maxval : (i : ℕ) → i < 4 ^ r .n → getD lent′ i 0 ≤ r .maxval
+    samples-at-most-maxval i h = let many : i < r .count = omega (arith, count-is-square) in omega (arith, accepted .at-most i h, getD-take (r .count) lent′ i 0 many)
+
+    pub beyond-unchanged : (i : ℕ) → 4 ^ r .n ≤ i → getD lent′ i 0 ≡ getD lent i 0
+    beyond-unchanged i h =
+        let w = samples-written (fits .0) (fits .1) in
+        ap (λ (l : List ℕ). getD l i 0) (w .1)
+        ∙ over-beyond (scan bytes .raster) lent i (omega (arith, raster-is-square bytes (fits .0), ap (λ (q : Picture). 4 ^ q .n) (w .0)))
+
+    pub length-unchanged : length lent′ ≡ length lent
+    length-unchanged =
+        let w = samples-written (fits .0) (fits .1) in
+        ap length (w .1) ∙ length-over (scan bytes .raster) lent (omega (arith, raster-is-square bytes (fits .0), fits .1))
+
+  -- No picture without a cause is refused.
+  pub accepted-picture-read : {n maxval : ℕ} {raster : List ℕ} → AcceptedPicture bytes n maxval raster → 4 ^ n ≤ length lent
+      → (r ≡ record { number = 0; n = n; maxval = maxval; count = 4 ^ n }) × (lent′ ≡ over raster lent)
+  accepted-picture-read {n} {maxval} {raster} x h =
+      let e = accepted-scan bytes raster n maxval x in
+      let w = samples-written (ap (λ (s : Scan). s .number) e) (omega (arith, ap (λ (s : Scan). 4 ^ s .n) e)) in (
+        w .0 ∙ ap (λ (s : Scan). record { number = 0; n = s .n; maxval = s .maxval; count = 4 ^ s .n }) e,
+        w .1 ∙ ap (λ (s : Scan). over (s .raster) lent) e,
+      )

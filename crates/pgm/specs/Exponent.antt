@@ -8,7 +8,7 @@ use native.Mathlib.Omega.{arith}
 use borrow.Author.Tests.{eq-eqb, ne-eqb, eqb-true, eqb-false}
 use lib.Dec.{eqb}
 use Rattle.sequences.specs.Powers.{pow2-pos, pow2-mono}
-use Rattle.pgm.specs.declared.samples.PowerOfTwo.{PowerOfTwo}
+use Rattle.pgm.specs.declared.shape.PowerOfTwo.{PowerOfTwo}
 
 -- The first of the `left` numbers from n on whose power of two is the width.
 unfoldable pub exponentFrom : ℕ → ℕ → ℕ → PowerOfTwo
@@ -86,3 +86,10 @@ from-finds (suc left) n k l h = pick (eqb (2 ^ n) (2 ^ k)) refl (from-finds left
 pub exponent-of-power : (k : ℕ) → k ≤ 8 → exponent (2 ^ k) ≡ PowerOfTwo.Power k
 unfolding exponent
 exponent-of-power k h = from-finds 9 0 k (omega arith) (omega arith)
+
+-- A width that passes 11 is at most 256.
+pub width-small : (width : ℕ) {n : ℕ} → exponent width ≡ PowerOfTwo.Power n → width ≤ 256
+width-small width h =
+    let (power, small) = exponent-power width (ap sideNumber h) in
+    let m : 2 ^ sideN (exponent width) ≤ 2 ^ 8 = pow2-mono {i = sideN (exponent width)} {j = 8} small in
+    omega (arith, m, power)

@@ -1,7 +1,11 @@
--- Binary PGM: the causes, the picture.
+-- Binary PGM: the causes, the picture, the reader.
 pub mod Exponent
+pub mod Samples
 pub mod Picture
-pub mod PictureLaws
+pub mod Shaped
+pub mod Scans
+pub mod Reading
+pub mod Judging
 pub mod Accepted
 pub mod Callers
 pub mod Remarks

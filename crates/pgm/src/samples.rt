@@ -1,41 +1,46 @@
-// The side of a picture and its samples.
+// Samples of one byte or of two, the most significant first.
 ghost use mathlib.Core.Path.{_≡_};
-ghost use lib.ListN.{drop};
-ghost use Rattle.pgm.specs.Exponent.{exponent};
-ghost use Rattle.pgm.specs.Picture.{within};
+ghost use Prim.Native.Nat.{_+_, _*_, _≤_};
+ghost use lib.ListN.{length};
+ghost use Rattle.sequences.specs.Over.{over};
+ghost use Rattle.pgm.specs.Samples.{sampleBytes, sampleAt, samplesOf, anyAbove};
 
-// A side that is a power of two from 1 to 256, by its exponent, or another.
-pub enum PowerOfTwo {
-    Other,
-    Power(u32),
-}
-
-// The n from 0 to 8 with 2^n = width, where there is one.
-pub(crate) fn exponent(width: u32) -> PowerOfTwo
-    ensures { λ r. ⌜ r ≡ exponent width ⌝ }
+// The sample i.
+fn sample(bytes: &[u8], wide: bool, i: usize) -> u16
+    requires { ⌜ sampleBytes wide * (i + 1) ≤ length (now bytes) ⌝ }
+    ensures { λ r. ⌜ r ≡ sampleAt wide (now (bytes .entry)) i ⌝ }
 {
-    let mut n: u32 = 0;
-    let mut power: u32 = 1;
-    while n < 9 {
-        if power == width {
-            return PowerOfTwo::Power(n);
-        }
-        power *= 2;
-        n += 1;
+    if wide {
+        let high = bytes[2 * i] as u16;
+        let low = bytes[2 * i + 1] as u16;
+        return 256 * high + low;
     }
-    PowerOfTwo::Other
+    bytes[i] as u16
 }
 
-// Whether no sample from `start` on is above maxval.
-pub(crate) fn within(bytes: &[u8], start: usize, maxval: u32) -> bool
-    ensures { λ r. ⌜ r ≡ within maxval (drop start (now (bytes .entry))) ⌝ }
+// Whether one of the first `count` samples is above maxval. All are looked at, with no way out of the loop, so that the compiler
+// can take several at a time.
+pub(crate) fn any_above(bytes: &[u8], wide: bool, count: usize, maxval: u16) -> bool
+    requires { ⌜ sampleBytes wide * count ≤ length (now bytes) ⌝ }
+    ensures { λ r. ⌜ r ≡ anyAbove maxval (samplesOf wide count (now (bytes .entry))) ⌝ }
 {
-    let mut at = start;
-    while at < bytes.len() {
-        if maxval < (bytes[at] as u32) {
-            return false;
-        }
+    let mut found = false;
+    let mut i: usize = 0;
+    while i < count {
+        found = found | (maxval < sample(bytes, wide, i));
+        i += 1;
+    }
+    found
+}
+
+// Stores the first `count` samples at the front of the raster.
+pub(crate) fn store(bytes: &[u8], wide: bool, count: usize, raster: &mut [u16])
+    requires { ⌜ (sampleBytes wide * count ≤ length (now bytes)) × (count ≤ length (now raster)) ⌝ }
+    ensures { λ _. ⌜ now (raster .exit) ≡ over (samplesOf wide count (now (bytes .entry))) (now (raster .entry)) ⌝ }
+{
+    let mut at: usize = 0;
+    while at < count {
+        raster[at] = sample(bytes, wide, at);
         at += 1;
     }
-    true
 }

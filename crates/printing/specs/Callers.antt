@@ -6,7 +6,7 @@ use native.Mathlib.Omega.{arith}
 use lib.ListN.{length, take, drop, length-append}
 use Rattle.sequences.specs.Over.{over, take-over}
 use Rattle.answers.specs.declared.Written.{Written}
-use Rattle.printing.specs.Printed.{inputNumber, pictureText, wholeText, refusedLine, printed, Printing}
+use Rattle.printing.specs.Printed.{inputNumber, pictureText, wholeText, textRoom, refusedLine, printed, Printing}
 use Rattle.printing.specs.Printable.{accepted-text, refusal-text, all-printed}
 
 module _ {bytes text bytes′ text′ : List ℕ} {w : Written} (p : Printing bytes text bytes′ text′ w) where
@@ -19,8 +19,8 @@ module _ {bytes text bytes′ text′ : List ℕ} {w : Written} (p : Printing by
   pub text-written : take (w .count) text′ ≡ printed bytes (length text)
   text-written = ap₂ take (p .count-is) (p .in-text) ∙ take-over (printed bytes (length text)) text
 
-  -- A list of 106,496 bytes takes the whole text of any bytes.
-  module _ (large : 106496 ≤ length text) where
+  -- A list of that length takes the whole text of any bytes.
+  module _ (large : textRoom ≤ length text) where
     pub whole-text-written : take (w .count) text′ ≡ wholeText bytes
     whole-text-written = text-written ∙ all-printed bytes (length text) large .0
 

@@ -1,4 +1,4 @@
--- What is printed for document 01's dials 1 to 5 and for a refusal of each kind from 10 to 14, byte by byte.
+-- What is printed for document 01's dials 1 to 5, for one of two bytes a sample and for a refusal of each kind from 10 to 14, byte by byte.
 use mathlib.Core.Path.{_≡_, refl}
 use mathlib.Core.List.{List, [], _∷_, map}
 use Prim.Native.Nat.{ℕ}
@@ -59,6 +59,20 @@ examples =
     ∷ record {
       bytes = 80 ∷ 53 ∷ 10 ∷ 50 ∷ 32 ∷ 50 ∷ 10 ∷ 50 ∷ 53 ∷ 53 ∷ 10 ∷ 1 ∷ 1 ∷ 2 ∷ 2 ∷ [];
       text = 77 ∷ 48 ∷ 32 ∷ 48 ∷ 72 ∷ 50 ∷ 86 ∷ 49 ∷ 72 ∷ 48 ∷ 90 ∷ 10 ∷ 77 ∷ 48 ∷ 32 ∷ 49 ∷ 72 ∷ 50 ∷ 86 ∷ 50 ∷ 72 ∷ 48 ∷ 90 ∷ 10 ∷ [];
+    }
+    -- The same as dial 4 with two bytes a sample and colours that differ in the most significant byte alone: 1, 257, 257, 1.
+    -- M0 0H1V1H0Z
+    -- M1 0H2V1H1Z
+    -- M0 1H1V2H0Z
+    -- M1 1H2V2H1Z
+    ∷ record {
+      bytes = 80 ∷ 53 ∷ 10 ∷ 50 ∷ 32 ∷ 50 ∷ 10 ∷ 54 ∷ 53 ∷ 53 ∷ 51 ∷ 53 ∷ 10 ∷ 0 ∷ 1 ∷ 1 ∷ 1 ∷ 1 ∷ 1 ∷ 0 ∷ 1 ∷ [];
+      text =
+          77 ∷ 48 ∷ 32 ∷ 48 ∷ 72 ∷ 49 ∷ 86 ∷ 49 ∷ 72 ∷ 48 ∷ 90 ∷ 10
+          ∷ 77 ∷ 49 ∷ 32 ∷ 48 ∷ 72 ∷ 50 ∷ 86 ∷ 49 ∷ 72 ∷ 49 ∷ 90 ∷ 10
+          ∷ 77 ∷ 48 ∷ 32 ∷ 49 ∷ 72 ∷ 49 ∷ 86 ∷ 50 ∷ 72 ∷ 48 ∷ 90 ∷ 10
+          ∷ 77 ∷ 49 ∷ 32 ∷ 49 ∷ 72 ∷ 50 ∷ 86 ∷ 50 ∷ 72 ∷ 49 ∷ 90 ∷ 10
+          ∷ [];
     }
     -- Nothing.
     -- refused 10

@@ -10,15 +10,17 @@ use lib.Seq.{sets, sets-eq}
 use borrow.Author.Tests.{lt-ltb, le-ltb, ltb-false}
 use Rattle.sequences.specs.Cases.{first, when, first-none, first-some, first-zero, when-yes, when-no, when-zero}
 use Rattle.sequences.specs.Over.{over, over-none}
-use Rattle.sequences.specs.Powers.{square-of-side, pow4-mono}
+use Rattle.sequences.specs.Powers.{pow4-mono}
 use Rattle.quadtree.specs.Raster.{inCodeOrder}
 use Rattle.decimals.specs.Decimal.{decimal-two}
 use Rattle.answers.specs.Put.{Put}
 use Rattle.answers.specs.declared.Written.{Written}
-use Rattle.pgm.specs.Callers.{zero-accepted, refused-number, stretch-inside, stretch-length}
-use Rattle.pgm.specs.Picture.{answer, stretch}
+use Rattle.headers.specs.FileLaws.{raster-short}
+use Rattle.pgm.specs.Samples.{isWide, sampleBytes, bytes-at-least}
+use Rattle.pgm.specs.Picture.{scan}
+use Rattle.pgm.specs.Callers.{zero-accepted, refused-number}
 use Rattle.drawing.specs.Outlines.{image-text-fits}
-use Rattle.printing.specs.Printed.{refusedLine, inputNumber, pictureText, textFor, wholeText, needFor, textNeed, printNumber, ifRoom, printed, Printing, Refusing}
+use Rattle.printing.specs.Printed.{refusedLine, inputLimit, inputNumber, pictureText, textFor, wholeText, needFor, textNeed, textRoom, printNumber, ifRoom, printed, Printing, Refusing}
 
 -- The line of a number of two digits, byte by byte.
 abbrev pub twoDigitLine : ℕ → List ℕ
@@ -33,28 +35,28 @@ line-length number h l = ap length (line-of-two number h l)
 
 -- The number of the input, cause by cause.
 module _ (bytes : List ℕ) where
-  pub too-long : 8192 < length bytes → inputNumber bytes ≡ 15
+  pub too-long : inputLimit < length bytes → inputNumber bytes ≡ 15
   unfolding inputNumber
-  too-long h = rw (lt-ltb 8192 (length bytes) h) refl
+  too-long h = rw (lt-ltb inputLimit (length bytes) h) refl
 
-  pub by-picture : length bytes ≤ 8192 → inputNumber bytes ≡ answer bytes .number
+  pub by-picture : length bytes ≤ inputLimit → inputNumber bytes ≡ scan bytes .number
   unfolding inputNumber
-  by-picture h = rw (le-ltb 8192 (length bytes) h) refl
+  by-picture h = rw (le-ltb inputLimit (length bytes) h) refl
 
-  pub accepted-says : inputNumber bytes ≡ 0 → (length bytes ≤ 8192) × (answer bytes .number ≡ 0)
+  pub accepted-says : inputNumber bytes ≡ 0 → (length bytes ≤ inputLimit) × (scan bytes .number ≡ 0)
   unfolding inputNumber
   accepted-says e =
-      let z = first-zero (when (ltb 8192 (length bytes)) 15) (answer bytes .number) e in
-      (ltb-false 8192 (length bytes) (when-zero (ltb 8192 (length bytes)) 15 (omega arith) (z .0)), z .1)
+      let z = first-zero (when (ltb inputLimit (length bytes)) 15) (scan bytes .number) e in
+      (ltb-false inputLimit (length bytes) (when-zero (ltb inputLimit (length bytes)) 15 (omega arith) (z .0)), z .1)
 
   -- A refusal has one of the numbers 10 to 15.
   pub refusal-range : (inputNumber bytes ≡ 0 → ⊥) → (10 ≤ inputNumber bytes) × (inputNumber bytes ≤ 15)
-  refusal-range d = pick (decLt 8192 (length bytes))
+  refusal-range d = pick (decLt inputLimit (length bytes))
     where
-      pick : Dec (8192 < length bytes) → (10 ≤ inputNumber bytes) × (inputNumber bytes ≤ 15)
+      pick : Dec (inputLimit < length bytes) → (10 ≤ inputNumber bytes) × (inputNumber bytes ≤ 15)
       pick (yes h) = (omega (arith, too-long h), omega (arith, too-long h))
       pick (no h) =
-          let e : inputNumber bytes ≡ answer bytes .number = by-picture (omega arith) in
+          let e : inputNumber bytes ≡ scan bytes .number = by-picture (omega arith) in
           let r = refused-number bytes (λ z. d (e ∙ z)) in
           (omega (arith, e, r .0), omega (arith, e, r .1))
 
@@ -128,11 +130,11 @@ module _ (bytes : List ℕ) (e : inputNumber bytes ≡ 0) where
   unfolding wholeText textFor
   accepted-text = ap (λ (k : ℕ). textFor k bytes) e
 
-  accepted-need : textNeed bytes ≡ 26 * 4 ^ answer bytes .n
+  accepted-need : textNeed bytes ≡ 26 * 4 ^ scan bytes .n
   unfolding textNeed needFor
   accepted-need = ap (λ (k : ℕ). needFor k bytes) e
 
-  pub short-printed : {text : List ℕ} → length text < 26 * 4 ^ answer bytes .n → Printing bytes text bytes text (record { number = 8; count = 0 })
+  pub short-printed : {text : List ℕ} → length text < 26 * 4 ^ scan bytes .n → Printing bytes text bytes text (record { number = 8; count = 0 })
   unfolding printNumber printed
   short-printed {text} h =
       let l : length text < textNeed bytes = omega (arith, accepted-need) in
@@ -145,7 +147,7 @@ module _ (bytes : List ℕ) (e : inputNumber bytes ≡ 0) where
         in-bytes = refl;
       }
 
-  pub picture-printed : {text text′ : List ℕ} {count : ℕ} → 26 * 4 ^ answer bytes .n ≤ length text → Put (pictureText bytes) text text′ count
+  pub picture-printed : {text text′ : List ℕ} {count : ℕ} → 26 * 4 ^ scan bytes .n ≤ length text → Put (pictureText bytes) text text′ count
       → Printing bytes text bytes text′ (record { number = 0; count = count })
   unfolding printNumber printed
   picture-printed {text} {text′} {count} h p =
@@ -159,27 +161,30 @@ module _ (bytes : List ℕ) (e : inputNumber bytes ≡ 0) where
         in-bytes = refl;
       }
 
--- An accepted picture of at most 8,192 bytes has a side of at most 64.
-pub side-at-most-64 : (bytes : List ℕ) → length bytes ≤ 8192 → answer bytes .number ≡ 0 → answer bytes .n ≤ 6
-side-at-most-64 bytes short z = pick (decLt 6 (answer bytes .n))
+-- An accepted picture of at most 16,384 bytes has a side of at most 64: one of side 128 has 16,384 samples, and a header besides.
+pub side-at-most-64 : (bytes : List ℕ) → length bytes ≤ inputLimit → scan bytes .number ≡ 0 → scan bytes .n ≤ 6
+side-at-most-64 bytes short z = pick (decLt 6 (scan bytes .n))
   where
-    whole : length (stretch bytes) ≡ 4 ^ answer bytes .n
-    whole = zero-accepted bytes z .full ∙ square-of-side (answer bytes .n)
+    -- The header and the samples, of at least one byte each.
+    long : 4 ^ scan bytes .n < length bytes
+    long =
+        let a = zero-accepted bytes z in
+        omega (arith, raster-short bytes (a .rest) _ (a .file), a .full, bytes-at-least (isWide (scan bytes .maxval)) (4 ^ scan bytes .n))
 
-    pick : Dec (6 < answer bytes .n) → answer bytes .n ≤ 6
+    pick : Dec (6 < scan bytes .n) → scan bytes .n ≤ 6
     pick (yes h) =
-        let m : 4 ^ 7 ≤ 4 ^ answer bytes .n = pow4-mono {i = 7} {j = answer bytes .n} (omega arith) in
-        absurd (omega (arith, m, whole, stretch-length bytes, stretch-inside bytes))
+        let m : 4 ^ 7 ≤ 4 ^ scan bytes .n = pow4-mono {i = 7} {j = scan bytes .n} (omega arith) in
+        absurd (omega (arith, m, long))
     pick (no h) = omega arith
 
--- The need of 26 times 4^n, or of the line of a refusal, suffices; and it is never more than 106,496 bytes.
+-- The need of 26 times 4^n, or of the line of a refusal, suffices; and it is never more than that many bytes.
 module _ (bytes : List ℕ) where
-  pub picture-fits : inputNumber bytes ≡ 0 → length (pictureText bytes) ≤ 26 * 4 ^ answer bytes .n
+  pub picture-fits : inputNumber bytes ≡ 0 → length (pictureText bytes) ≤ 26 * 4 ^ scan bytes .n
   unfolding pictureText
   picture-fits e =
       let a = accepted-says bytes e in
-      let low : answer bytes .n ≤ 6 = side-at-most-64 bytes (a .0) (a .1) in
-      image-text-fits (answer bytes .n) (inCodeOrder (answer bytes .n) (stretch bytes)) (omega arith)
+      let low : scan bytes .n ≤ 6 = side-at-most-64 bytes (a .0) (a .1) in
+      image-text-fits (scan bytes .n) (inCodeOrder (scan bytes .n) (scan bytes .raster)) (omega arith)
 
   pub text-fits : length (wholeText bytes) ≤ textNeed bytes
   text-fits = pick (inputNumber bytes) refl
@@ -188,20 +193,20 @@ module _ (bytes : List ℕ) where
       pick zero e = omega (arith, ap length (accepted-text bytes e), accepted-need bytes e, picture-fits e)
       pick (suc k) e = omega (arith, ap length (refusal-text bytes (omega arith) e), refusal-need bytes (omega arith) e)
 
-  pub need-at-most : textNeed bytes ≤ 106496
+  pub need-at-most : textNeed bytes ≤ textRoom
   need-at-most = pick (inputNumber bytes) refl
     where
-      pick : (k : ℕ) → inputNumber bytes ≡ k → textNeed bytes ≤ 106496
+      pick : (k : ℕ) → inputNumber bytes ≡ k → textNeed bytes ≤ textRoom
       pick zero e =
           let a = accepted-says bytes e in
-          let m : 4 ^ answer bytes .n ≤ 4 ^ 6 = pow4-mono {i = answer bytes .n} {j = 6} (side-at-most-64 bytes (a .0) (a .1)) in
+          let m : 4 ^ scan bytes .n ≤ 4 ^ 6 = pow4-mono {i = scan bytes .n} {j = 6} (side-at-most-64 bytes (a .0) (a .1)) in
           omega (arith, accepted-need bytes e)
       pick (suc k) e =
           let r = refusal-range bytes (λ z. let h : ⊥ = omega arith in h) in
           omega (arith, refusal-need bytes (omega arith) e, line-length (suc k) (omega (arith, r .0)) (omega (arith, r .1)))
 
-  -- So a text list of 106,496 bytes takes the whole text of any bytes, and the number is that of the bytes.
-  pub all-printed : (size : ℕ) → 106496 ≤ size → (printed bytes size ≡ wholeText bytes) × (printNumber bytes size ≡ inputNumber bytes)
+  -- So a text list of that many bytes takes the whole text of any bytes, and the number is that of the bytes.
+  pub all-printed : (size : ℕ) → textRoom ≤ size → (printed bytes size ≡ wholeText bytes) × (printNumber bytes size ≡ inputNumber bytes)
   unfolding printed printNumber
   all-printed size h =
       let l : textNeed bytes ≤ size = omega (arith, need-at-most) in

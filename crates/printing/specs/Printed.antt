@@ -10,7 +10,7 @@ use Rattle.sequences.specs.Over.{over}
 use Rattle.quadtree.specs.Raster.{inCodeOrder}
 use Rattle.decimals.specs.Decimal.{decimal}
 use Rattle.answers.specs.declared.Written.{Written}
-use Rattle.pgm.specs.Picture.{answer, stretch}
+use Rattle.pgm.specs.Picture.{scan}
 use Rattle.drawing.specs.Outlines.{imageText}
 
 -- "A refusal prints "refused ", the number and LF only" (document 01, "Path, chain and picture"): the bytes of the word and the blank,
@@ -19,21 +19,25 @@ unfoldable pub refusedLine : ℕ → List ℕ
 unfolding decimal
 refusedLine number = 114 ∷ 101 ∷ 102 ∷ 117 ∷ 115 ∷ 101 ∷ 100 ∷ 32 ∷ (decimal number ++ (10 ∷ []))
 
--- "PGM: rising, the program's 15 before all" (document 01, "When the answer is a number"): 15 where there are more than 8,192 bytes,
--- then 10 to 14; 0 for an accepted picture.
-unfoldable pub inputNumber : List ℕ → ℕ
-unfolding first when answer
-inputNumber bytes = first (when (ltb 8192 (length bytes)) 15) (answer bytes .number)
+-- "Both programs now take 16,384 bytes" (document 02, i).
+abbrev pub inputLimit : ℕ
+inputLimit = 16384
 
--- Of 8,193 zeros the header is bad as well.
-fifteen-before-ten : inputNumber (replicate 8193 0) ≡ 15
+-- "PGM: rising, the program's 15 before all" (document 01, "When the answer is a number"), and "15 begins above 16,384" (document 02, i):
+-- 15 where there are more bytes, then 10 to 14; 0 for an accepted picture.
+unfoldable pub inputNumber : List ℕ → ℕ
+unfolding first when scan
+inputNumber bytes = first (when (ltb inputLimit (length bytes)) 15) (scan bytes .number)
+
+-- Of one zero more than that the header is bad as well.
+fifteen-before-ten : inputNumber (replicate (suc inputLimit) 0) ≡ 15
 unfolding inputNumber
 fifteen-before-ten = refl
 
 -- The lines of an accepted picture: its raster in rising location code is the image.
 unfoldable pub pictureText : List ℕ → List ℕ
-unfolding imageText inCodeOrder answer stretch
-pictureText bytes = imageText (answer bytes .n) (inCodeOrder (answer bytes .n) (stretch bytes))
+unfolding imageText inCodeOrder scan
+pictureText bytes = imageText (scan bytes .n) (inCodeOrder (scan bytes .n) (scan bytes .raster))
 
 -- What is printed where the number is this one, 0 for acceptance.
 unfoldable pub textFor : ℕ → List ℕ → List ℕ
@@ -48,13 +52,17 @@ wholeText bytes = textFor (inputNumber bytes) bytes
 
 -- The need of the text list: 26 times 4^n for a picture, and the line itself for a refusal.
 unfoldable pub needFor : ℕ → List ℕ → ℕ
-unfolding refusedLine answer
-needFor zero bytes = 26 * 4 ^ answer bytes .n
+unfolding refusedLine scan
+needFor zero bytes = 26 * 4 ^ scan bytes .n
 needFor (suc k) bytes = length (refusedLine (suc k))
 
 unfoldable pub textNeed : List ℕ → ℕ
 unfolding needFor inputNumber
 textNeed bytes = needFor (inputNumber bytes) bytes
+
+-- What is enough for any input: 26 times 4^6, since n is at most 6 there (`side-at-most-64` of Printable.antt).
+abbrev pub textRoom : ℕ
+textRoom = 106496
 
 -- The number of the answer for a text list of the length `size`: 15, 10 to 14, and then 8.
 unfoldable pub printNumber : List ℕ → ℕ → ℕ

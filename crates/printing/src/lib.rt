@@ -4,16 +4,23 @@ mod refusal;
 use answers::Written;
 ghost use Rattle.printing.specs.Printed.{Printing};
 
-// The lines of an accepted picture, or of a refused one its line: 15 above 8,192 bytes, then 10 to 14, then 8 with the need of
+// The most bytes that a program takes.
+pub const INPUT_LIMIT: usize = 16384;
+
+// The length of a text list that has room for any answer.
+pub const TEXT_ROOM: usize = 106496;
+
+// The lines of an accepted picture, or of a refused one its line: 15 above the limit, then 10 to 14, then 8 with the need of
 // 26 times 4^n. The answer is the number, 0 for acceptance, and how many bytes were written; a refusal's line that has no room
 // is left out.
 pub fn print(bytes: &[u8], text: &mut [u8]) -> Written
     ensures { λ r. ⌜ Printing (now (bytes .entry)) (now (text .entry)) (now (bytes .exit)) (now (text .exit)) r ⌝ }
 {
-    if 8192 < bytes.len() {
+    if INPUT_LIMIT < bytes.len() {
         return refusal::refuse(15, text);
     }
-    let found = pgm::read(bytes);
+    let mut raster = [0u16; 4096];
+    let found = pgm::read(bytes, &mut raster);
     let number = found.number;
     if number != 0 {
         return refusal::refuse(number, text);
@@ -25,11 +32,7 @@ pub fn print(bytes: &[u8], text: &mut [u8]) -> Written
             count: 0,
         };
     }
-    let start = found.start;
-    let end = start + found.length;
-    let count = drawing::write_picture(n, &bytes[start..end], text);
-    Written {
-        number: 0,
-        count: count as u32,
-    }
+    let samples = found.count as usize;
+    let count = drawing::write_picture(n, &raster[..samples], text) as u32;
+    Written { number: 0, count }
 }

@@ -26,7 +26,7 @@ fn label(
     need: usize,
     codes: &[u32],
     levels: &[u8],
-    colours: &[u8],
+    colours: &[u16],
     labels: &mut [u32],
     work: &mut [u32],
 ) -> u32
@@ -45,7 +45,7 @@ pub fn number(
     n: u32,
     codes: &[u32],
     levels: &[u8],
-    colours: &[u8],
+    colours: &[u16],
     labels: &mut [u32],
     work: &mut [u32],
 ) -> Numbered

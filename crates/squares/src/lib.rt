@@ -5,7 +5,7 @@ ghost use lib.ListN.{length};
 ghost use Rattle.squares.specs.Fours.{fourStored};
 
 // Gives the square of side 2 at the place `at`, in rows of w, its four colours. In rows of 2 these are successive entries.
-pub fn store_four(raster: &mut [u8], w: usize, at: usize, nw: u8, ne: u8, sw: u8, se: u8)
+pub fn store_four(raster: &mut [u16], w: usize, at: usize, nw: u16, ne: u16, sw: u16, se: u16)
     requires { ⌜ (w ≤ 256) × (at + w + 1 < length (now raster)) ⌝ }
     ensures { λ _. ⌜ now (raster .exit) ≡ fourStored w at nw ne sw se (now (raster .entry)) ⌝ }
 {

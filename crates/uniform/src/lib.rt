@@ -8,7 +8,7 @@ ghost use Rattle.uniform.specs.Squares.{rowsAlike};
 ghost use Rattle.uniform.specs.Others.{OthersFit, besideAlike};
 
 // Whether the s pixels from the place `from` on have the colour v.
-fn run_alike(raster: &[u8], from: usize, s: usize, v: u8) -> bool
+fn run_alike(raster: &[u16], from: usize, s: usize, v: u16) -> bool
     requires { ⌜ from + s ≤ length (now raster) ⌝ }
     ensures { λ r. ⌜ r ≡ alike (now (raster .entry)) v from s ⌝ }
 {
@@ -24,7 +24,7 @@ fn run_alike(raster: &[u8], from: usize, s: usize, v: u8) -> bool
 }
 
 // Whether the square of s rows of s pixels at the place `at`, in rows of w, has the colour v.
-fn square_alike(raster: &[u8], w: usize, at: usize, s: usize, v: u8) -> bool
+fn square_alike(raster: &[u16], w: usize, at: usize, s: usize, v: u16) -> bool
     requires { ⌜ (w ≤ 256) × RowsFit (length (now raster)) w at s s ⌝ }
     ensures { λ r. ⌜ r ≡ rowsAlike (now (raster .entry)) v w at s s ⌝ }
 {
@@ -41,7 +41,7 @@ fn square_alike(raster: &[u8], w: usize, at: usize, s: usize, v: u8) -> bool
 }
 
 // Whether the squares of side s east, south and southeast of the one at `at` have the colour v.
-pub fn others_alike(raster: &[u8], w: usize, at: usize, s: usize, v: u8) -> bool
+pub fn others_alike(raster: &[u16], w: usize, at: usize, s: usize, v: u16) -> bool
     requires { ⌜ OthersFit (length (now raster)) w at s ⌝ }
     ensures { λ r. ⌜ r ≡ besideAlike (now (raster .entry)) v w at s ⌝ }
 {

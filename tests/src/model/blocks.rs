@@ -9,11 +9,11 @@ use std::fmt::{Display, Formatter, Result};
 pub struct Blocks {
     pub codes: Vec<u32>,
     pub levels: Vec<u8>,
-    pub colours: Vec<u8>,
+    pub colours: Vec<u16>,
 }
 
 impl Blocks {
-    pub fn push(&mut self, code: u32, level: u8, colour: u8) {
+    pub fn push(&mut self, code: u32, level: u8, colour: u16) {
         self.codes.push(code);
         self.levels.push(level);
         self.colours.push(colour);
@@ -68,13 +68,13 @@ impl Square {
 }
 
 /// Section 2's quadtree of a raster of side 2^n: a square of one colour is a block, any other is its four quadrants.
-pub fn quadtree(n: u32, raster: &[u8]) -> Blocks {
+pub fn quadtree(n: u32, raster: &[u16]) -> Blocks {
     let mut blocks = Blocks::default();
     decompose(1 << n, raster, Square { x: 0, y: 0, side: 1 << n }, &mut blocks);
     blocks
 }
 
-fn decompose(width: usize, raster: &[u8], square: Square, blocks: &mut Blocks) {
+fn decompose(width: usize, raster: &[u16], square: Square, blocks: &mut Blocks) {
     let colour = raster[square.y * width + square.x];
     if square.pixels().all(|(x, y)| raster[y * width + x] == colour) {
         let level = square.side.trailing_zeros() as u8;
@@ -87,7 +87,7 @@ fn decompose(width: usize, raster: &[u8], square: Square, blocks: &mut Blocks) {
 }
 
 /// The raster that an accepted list of an image of side 2^n paints: each block is a square filled with its colour.
-pub fn paint(n: u32, blocks: &Blocks) -> Vec<u8> {
+pub fn paint(n: u32, blocks: &Blocks) -> Vec<u16> {
     let width = 1usize << n;
     let mut raster = vec![0; width * width];
     for i in 0..blocks.len() {
@@ -101,7 +101,7 @@ pub fn paint(n: u32, blocks: &Blocks) -> Vec<u8> {
 }
 
 /// The number of a block list by the table "When the answer is a number", causes 1 to 7.
-pub fn number(n: u32, codes: &[u32], levels: &[u8], colours: &[u8]) -> u32 {
+pub fn number(n: u32, codes: &[u32], levels: &[u8], colours: &[u16]) -> u32 {
     if n > 8 {
         return 1;
     }
@@ -149,8 +149,8 @@ fn cover(n: u32, code: u32, level: u8, covered: &mut [bool], count: &mut u64) ->
 }
 
 /// Cause 7 in a list that covers each pixel once: some square has four quadrants that are blocks of one colour.
-fn has_equal_siblings(n: u32, codes: &[u32], levels: &[u8], colours: &[u8]) -> bool {
-    let blocks: HashMap<(u32, u32, u8), u8> =
+fn has_equal_siblings(n: u32, codes: &[u32], levels: &[u8], colours: &[u16]) -> bool {
+    let blocks: HashMap<(u32, u32, u8), u16> =
         codes.iter().zip(levels).zip(colours).map(|((&c, &l), &k)| ((pixel(c).0, pixel(c).1, l), k)).collect();
     blocks.iter().any(|(&(x, y, level), &colour)| {
         let side = 1u32 << level;
@@ -166,14 +166,14 @@ fn has_equal_siblings(n: u32, codes: &[u32], levels: &[u8], colours: &[u8]) -> b
 
 /// The causes of the table whose condition holds somewhere in a list, each asked of the whole list by itself, whatever the
 /// others say. Blocks are those that all three lists have.
-pub fn conditions(n: u32, codes: &[u32], levels: &[u8], colours: &[u8]) -> Vec<u32> {
+pub fn conditions(n: u32, codes: &[u32], levels: &[u8], colours: &[u16]) -> Vec<u32> {
     let power = |e: u32| 4u128.checked_pow(e).unwrap_or(u128::MAX);
-    let blocks: Vec<(u128, u32, u8)> =
+    let blocks: Vec<(u128, u32, u16)> =
         codes.iter().zip(levels).zip(colours).map(|((&c, &l), &k)| (u128::from(c), u32::from(l), k)).collect();
     let sums: Vec<u128> = (0..=blocks.len())
         .map(|i| blocks[..i].iter().fold(0u128, |sum, &(_, level, _)| sum.saturating_add(power(level))))
         .collect();
-    let four_alike = |b: &[(u128, u32, u8)]| {
+    let four_alike = |b: &[(u128, u32, u16)]| {
         b.iter().all(|&(_, l, k)| (l, k) == (b[0].1, b[0].2)) && b[0].1 < n && b[0].0 % power(b[0].1 + 1) == 0
     };
     let holds = [
@@ -204,14 +204,17 @@ mod tests {
 
     #[test]
     fn figure_5b() {
-        let raster = [1, 1, 1, 1, 1, 2, 1, 1, 1, 1, 3, 3, 1, 1, 3, 3];
-        let blocks = Blocks {
-            codes: vec![0, 1, 2, 3, 4, 8, 12],
-            levels: vec![0, 0, 0, 0, 1, 1, 1],
-            colours: vec![1, 1, 1, 2, 1, 1, 3],
-        };
-        assert_eq!(quadtree(2, &raster), blocks);
-        assert_eq!(paint(2, &blocks), raster);
-        assert_eq!(number(2, &blocks.codes, &blocks.levels, &blocks.colours), 0);
+        // also with colours that differ in the high byte alone, or in the low byte alone
+        for [a, b, c] in [[1, 2, 3], [1, 257, 513], [0xFF01, 0xFF02, 0xFF03]] {
+            let raster = [a, a, a, a, a, b, a, a, a, a, c, c, a, a, c, c];
+            let blocks = Blocks {
+                codes: vec![0, 1, 2, 3, 4, 8, 12],
+                levels: vec![0, 0, 0, 0, 1, 1, 1],
+                colours: vec![a, a, a, b, a, a, c],
+            };
+            assert_eq!(quadtree(2, &raster), blocks);
+            assert_eq!(paint(2, &blocks), raster);
+            assert_eq!(number(2, &blocks.codes, &blocks.levels, &blocks.colours), 0);
+        }
     }
 }

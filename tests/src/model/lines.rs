@@ -20,7 +20,7 @@ pub fn paths(regions: &Regions) -> Vec<String> {
 pub fn printed(bytes: &[u8]) -> String {
     let picture = read(bytes);
     match picture.number {
-        0 => paths(&Regions::of(picture.n, &bytes[picture.start..])).iter().map(|path| path.clone() + "\n").collect(),
+        0 => paths(&Regions::of(picture.n, &picture.samples)).iter().map(|path| path.clone() + "\n").collect(),
         number => format!("refused {number}\n"),
     }
 }
@@ -34,5 +34,13 @@ mod tests {
         let bytes = b"P5 4 4 9 \x01\x01\x01\x01\x01\x02\x02\x01\x01\x02\x02\x01\x01\x01\x01\x01";
         assert_eq!(printed(bytes), "M0 0H4V4H0ZM1 3H3V1H1Z\nM1 1H3V3H1Z\n");
         assert_eq!(printed(b"P5 1 1 9 "), "refused 13\n");
+    }
+
+    #[test]
+    fn dial_4_in_two_bytes_a_sample() {
+        let text = "M0 0H1V1H0Z\nM1 0H2V1H1Z\nM0 1H1V2H0Z\nM1 1H2V2H1Z\n";
+        assert_eq!(printed(b"P5 2 2 999 \x00\x07\x01\x07\x01\x07\x00\x07"), text);
+        assert_eq!(printed(b"P5 2 2 999 \x02\x00\x02\x01\x02\x01\x02\x00"), text);
+        assert_eq!(printed(b"P5 2 2 999 \x00\x07\x01\x07\x01\x07\x07\x00"), "refused 14\n");
     }
 }

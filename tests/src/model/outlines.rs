@@ -130,7 +130,7 @@ mod tests {
     use super::super::paths::svg;
     use super::*;
 
-    fn printed(n: u32, raster: &[u8]) -> Vec<String> {
+    fn printed(n: u32, raster: &[u16]) -> Vec<String> {
         let outlines = Outlines::of(&Regions::of(n, raster));
         (0..outlines.len()).map(|k| format!("{}: {}", outlines.owners[k], svg(outlines.cycle(k)))).collect()
     }

@@ -1,31 +1,49 @@
 //! Binary PGM, read by its layout.
 
-/// What a picture is: document 01's number, and on acceptance n, maxval and where the raster lies.
-#[derive(Clone, Copy, Debug, Default, PartialEq, Eq)]
+/// What a picture is: document 01's number, and on acceptance n, maxval and the samples, row by row.
+#[derive(Clone, Debug, Default, PartialEq, Eq)]
 pub struct Read {
     pub number: u32,
     pub n: u32,
     pub maxval: u32,
-    pub start: usize,
-    pub length: usize,
+    pub samples: Vec<u16>,
 }
 
+impl Read {
+    fn refused(number: u32) -> Read {
+        Read { number, ..Read::default() }
+    }
+}
+
+/// What the bytes of a file are, wherever the samples go.
 pub fn read(bytes: &[u8]) -> Read {
-    let refused = |number| Read { number, ..Read::default() };
-    let Some(Header { width, height, maxval, raster }) = header(bytes) else { return refused(10) };
+    let Some(Header { width, height, maxval, raster }) = header(bytes) else { return Read::refused(10) };
     if width != height || !(1..=256).contains(&width) || width.count_ones() != 1 {
-        return refused(11);
+        return Read::refused(11);
     }
-    if maxval == 0 || maxval > 255 {
-        return refused(12);
+    if maxval == 0 || maxval > 65_535 {
+        return Read::refused(12);
     }
-    if raster.len() as u64 != u64::from(width * height) {
-        return refused(13);
+    let bytes_a_sample = if maxval > 255 { 2 } else { 1 };
+    if raster.len() != bytes_a_sample * (width * height) as usize {
+        return Read::refused(13);
     }
-    if raster.iter().any(|&sample| u32::from(sample) > maxval) {
-        return refused(14);
+    let value = |sample: &[u8]| sample.iter().fold(0, |value, &byte| 256 * value + u32::from(byte));
+    let samples: Vec<u32> = raster.chunks(bytes_a_sample).map(value).collect();
+    if samples.iter().any(|&sample| sample > maxval) {
+        return Read::refused(14);
     }
-    Read { number: 0, n: width.trailing_zeros(), maxval, start: bytes.len() - raster.len(), length: raster.len() }
+    let samples = samples.into_iter().map(|sample| sample as u16).collect();
+    Read { number: 0, n: width.trailing_zeros(), maxval, samples }
+}
+
+/// What the bytes of a file are to a reader that is lent a raster of so many entries: 8 comes after all other numbers.
+pub fn read_into(bytes: &[u8], entries: usize) -> Read {
+    let picture = read(bytes);
+    if entries < picture.samples.len() {
+        return Read::refused(8);
+    }
+    picture
 }
 
 struct Header<'a> {
@@ -84,9 +102,13 @@ fn numbers(bytes: &[u8], start: usize) -> Vec<(u32, usize)> {
 mod tests {
     use super::*;
 
+    fn accepted(n: u32, maxval: u32, samples: &[u16]) -> Read {
+        Read { number: 0, n, maxval, samples: samples.to_vec() }
+    }
+
     #[test]
     fn one_pixel() {
-        assert_eq!(read(b"P5 1 1 255 x"), Read { number: 0, n: 0, maxval: 255, start: 11, length: 1 });
+        assert_eq!(read(b"P5 1 1 255 x"), accepted(0, 255, &[120]));
         assert_eq!(read(b"P5 1 1 255").number, 10);
         assert_eq!(read(b"P5 1 1 255 ").number, 13);
         assert_eq!(read(b"P5 1 1 000119 x").number, 10);
@@ -94,8 +116,28 @@ mod tests {
         assert_eq!(read(b"P5 3 3 255 x").number, 11);
         assert_eq!(read(b"P5 3").number, 10);
         assert_eq!(read(b"P5 2 2 99999 ").number, 12);
-        assert_eq!(read(b"P5#\n1#x\r1 255 #"), Read { number: 0, n: 0, maxval: 255, start: 14, length: 1 });
+        assert_eq!(read(b"P5#\n1#x\r1 255 #"), accepted(0, 255, &[35]));
         assert_eq!(read(b"P5 1 1 255#\nx").number, 10);
         assert_eq!(read(b"P5 1 1 #255 x").number, 10);
+    }
+
+    #[test]
+    fn two_bytes_a_sample() {
+        let bytes = b"P5 2 2 1000 \x00\x05\x01\x00\x03\xe8\x02\xff";
+        assert_eq!(read(bytes), accepted(1, 1000, &[5, 256, 1000, 767]));
+        assert_eq!(read(&bytes[..19]).number, 13);
+        assert_eq!(read(b"P5 1 1 256 x").number, 13);
+        assert_eq!(read(b"P5 1 1 256 \x01\x00"), accepted(0, 256, &[256]));
+        assert_eq!(read(b"P5 1 1 256 \x01\x01").number, 14);
+        assert_eq!(read(b"P5 1 1 65535 \xff\xfe"), accepted(0, 65_535, &[65_534]));
+        assert_eq!(read(b"P5 1 1 65536 \x00\x00").number, 12);
+    }
+
+    #[test]
+    fn short_rasters() {
+        let bytes = b"P5 2 2 9 \x01\x02\x03\x04";
+        assert_eq!((read_into(bytes, 4), read_into(bytes, 5)), (read(bytes), read(bytes)));
+        assert_eq!(read_into(bytes, 3), Read::refused(8));
+        assert_eq!(read_into(b"P5 2 2 9 \x01\x02\x03\x0a", 0), Read::refused(14));
     }
 }

@@ -14,7 +14,7 @@ const NONE: u32 = u32::MAX;
 
 impl Regions {
     /// The regions of a raster of side 2^n.
-    pub fn of(n: u32, raster: &[u8]) -> Regions {
+    pub fn of(n: u32, raster: &[u16]) -> Regions {
         let mut regions = Regions { n, numbers: vec![NONE; raster.len()], count: 0 };
         for code in 0..raster.len() as u32 {
             let (x, y) = pixel(code);
@@ -27,7 +27,7 @@ impl Regions {
     }
 
     /// Gives the next number to all that a path of one colour joins to (x, y), stepping north, east, south or west.
-    fn flood(&mut self, raster: &[u8], x: u32, y: u32) {
+    fn flood(&mut self, raster: &[u16], x: u32, y: u32) {
         let last = (1 << self.n) - 1;
         let colour = raster[self.place(x, y)];
         let mut reached = vec![(x, y)];
@@ -70,8 +70,10 @@ mod tests {
 
     #[test]
     fn corners_join_nothing() {
-        let regions = Regions::of(1, &[1, 2, 2, 1]);
-        assert_eq!((regions.count, regions.numbers), (4, vec![0, 1, 2, 3]));
+        for raster in [[1, 2, 2, 1], [1, 257, 257, 1], [512, 513, 513, 512]] {
+            let regions = Regions::of(1, &raster);
+            assert_eq!((regions.count, regions.numbers), (4, vec![0, 1, 2, 3]));
+        }
     }
 
     #[test]

@@ -9,8 +9,14 @@ returns c =
     let s = c .before .before .before in
     done-kept (s .args .colours .now) (s .args .k) (s .pre .low) (c .if1 .taken) (s .pre .done)
 
+mul-if2 : tie.Need-mul-if2
+mul-if2 c = search needs
+
 shared-slice-read-if2 : tie.Need-shared-slice-read-if2
 shared-slice-read-if2 c = search needs
+
+mul-if2-2 : tie.Need-mul-if2-2
+mul-if2-2 c = search needs
 
 shared-slice-read-if2-2 : tie.Need-shared-slice-read-if2-2
 shared-slice-read-if2-2 c = search needs
@@ -37,7 +43,9 @@ join-alike-spec =
     tie.close
     (tie.spec
     returns
+    mul-if2
     shared-slice-read-if2
+    mul-if2-2
     shared-slice-read-if2-2
     join-requires
     same-length

@@ -1,6 +1,6 @@
 -- The definition's own fields.
 use mathlib.Core.Path.{refl}
-use Rattle.pgm.specs.Picture.{refusal}
+use Rattle.pgm.specs.Reading.{refusal}
 use Rattle.pgm.proofs.refusal.Statement.{statement}
 use Rattle.pgm.proofs.refusal.Tie as tie
 

@@ -23,6 +23,9 @@ loop-holds c =
     let e : a .from + a .s - a .from ≡ a .s = omega arith in
     (omega arith, omega arith, refl, ap (alike (a .raster .now) (a .v) (a .from)) e)
 
+mul-if1 : tie.Need-mul-if1 Inv-loop μ-loop
+mul-if1 c = search needs
+
 shared-slice-read-if1 : tie.Need-shared-slice-read-if1 Inv-loop μ-loop
 shared-slice-read-if1 c = search needs
 
@@ -58,6 +61,7 @@ run-alike-spec =
     μ-loop
     add-end
     loop-holds
+    mul-if1
     shared-slice-read-if1
     returns
     add-i

@@ -35,16 +35,16 @@ returns-2 c =
     not-first-child (a .n) (a .codes .now) (a .levels .now) (a .colours .now) (a .i)
     (omega (arith, low .if1 .left, start .pre .0)) (omega (arith, c .before .alignment .ensures, c .if2 .taken))
 
-four-alike-requires : tie.Need-four-alike-requires
-four-alike-requires c κs = search needs
+levels-alike-requires : tie.Need-levels-alike-requires
+levels-alike-requires c κs = search needs
 
 returns-3 : tie.Need-returns-3
 returns-3 c =
     let a = c .before .before .before .before .before .before .before .before .before .before .args in
-    not-one-level (a .n) (a .codes .now) (a .levels .now) (a .colours .now) (a .i) (sym (c .before .four-alike .ensures) ∙ not-true _ (c .if3 .taken))
+    not-one-level (a .n) (a .codes .now) (a .levels .now) (a .colours .now) (a .i) (sym (c .before .levels-alike .ensures) ∙ not-true _ (c .if3 .taken))
 
-four-alike-requires-2 : tie.Need-four-alike-requires-2
-four-alike-requires-2 c κs = search needs
+colours-alike-requires : tie.Need-colours-alike-requires
+colours-alike-requires c κs = search needs
 
 returns-4 : tie.Need-returns-4
 returns-4 c =
@@ -54,7 +54,7 @@ returns-4 c =
     let a = low .before .before .before .before .before .args in
     one-colour (a .n) (a .codes .now) (a .levels .now) (a .colours .now) (a .i)
     (low .if1 .left) (omega (arith, aligned .before .alignment .ensures, aligned .if2 .left))
-    (sym (one-level .before .four-alike .ensures) ∙ not-false _ (one-level .if3 .left)) (sym (c .before .four-alike2 .ensures) ∙ c .if4 .taken)
+    (sym (one-level .before .levels-alike .ensures) ∙ not-false _ (one-level .if3 .left)) (sym (c .before .colours-alike .ensures) ∙ c .if4 .taken)
 
 returns-5 : tie.Need-returns-5
 returns-5 c =
@@ -64,7 +64,7 @@ returns-5 c =
     let a = low .before .before .before .before .before .args in
     more-colours (a .n) (a .codes .now) (a .levels .now) (a .colours .now) (a .i)
     (low .if1 .left) (omega (arith, aligned .before .alignment .ensures, aligned .if2 .left))
-    (sym (one-level .before .four-alike .ensures) ∙ not-false _ (one-level .if3 .left)) (sym (c .before .four-alike2 .ensures) ∙ c .if4 .left)
+    (sym (one-level .before .levels-alike .ensures) ∙ not-false _ (one-level .if3 .left)) (sym (c .before .colours-alike .ensures) ∙ c .if4 .left)
 
 pub stride-spec : {M : Type 1} → statement M
 stride-spec =
@@ -77,8 +77,8 @@ stride-spec =
     shared-slice-read-alignment
     alignment-requires
     returns-2
-    four-alike-requires
+    levels-alike-requires
     returns-3
-    four-alike-requires-2
+    colours-alike-requires
     returns-4
     returns-5)

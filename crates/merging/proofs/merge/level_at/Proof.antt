@@ -2,10 +2,11 @@
 -- The measure is what is left to the top.
 use mathlib.Core.Path.{_≡_, refl}
 use Prim.Native.Nat.{_-_}
+use native.Mathlib.Omega.{arith}
 use borrow.Author.Needs.{needs}
 use borrow.Author.Tests.{not-true, not-false}
 use Rattle.quadtree.specs.Raster.{place}
-use Rattle.merging.specs.Growth.{Growth, code-placed, place-read, growth-none, growth-fits, growth-more, growth-stops, growth-full}
+use Rattle.merging.specs.Growth.{Growth, code-placed, place-read, place-low, growth-none, growth-fits, growth-more, growth-stops, growth-full}
 use Rattle.merging.proofs.merge.level_at.Statement.{statement}
 use Rattle.merging.proofs.merge.level_at.Tie as tie
 
@@ -30,6 +31,9 @@ side-requires c κs = search needs
 
 place-requires : tie.Need-place-requires Inv-loop μ-loop
 place-requires c κs = search needs
+
+mul-v : tie.Need-mul-v Inv-loop μ-loop
+mul-v c = let s = c .before .before .before .before in omega (arith, place-low (s .pre .0) (s .pre .1) (placed c))
 
 shared-slice-read-v : tie.Need-shared-slice-read-v Inv-loop μ-loop
 shared-slice-read-v c = let s = c .before .before .before .before .before in place-read (s .pre .0) (s .pre .1) (placed (c .before))
@@ -77,6 +81,7 @@ level-at-spec =
     top-level-requires
     side-requires
     place-requires
+    mul-v
     shared-slice-read-v
     loop-holds
     side-requires-2

@@ -1,6 +1,6 @@
 -- The loop's invariant: the blocks written and those that merging gives from c on are all of them. The measure is the pixels left.
 use Rattle.merging.specs.MergeLoop.{Merging, Turn, FourTurn, raster-of, merging-none, in-image, turn, merging-more, four-turn, merging-four, merged, next-pixels}
-use Rattle.merging.specs.Growth.{code-placed, place-read}
+use Rattle.merging.specs.Growth.{code-placed, place-read, place-low}
 use Rattle.quadtree.specs.Raster.{place}
 use Rattle.sequences.specs.Powers.{pow4-mono}
 use mathlib.Core.Path.{_≡_, ap}
@@ -21,13 +21,13 @@ abbrev μ-loop : tie.MeasureT-loop
 abbrev entry : tie.In-loop Inv-loop μ-loop → tie.Start Inv-loop μ-loop
 entry c = c .before .before .before .before .before .before .before
 
-abbrev levels-before : tie.After-store-four2 Inv-loop μ-loop → tie.After-store-four Inv-loop μ-loop
+abbrev levels-before : tie.After-store-four Inv-loop μ-loop → tie.After-store-levels Inv-loop μ-loop
 levels-before c = c .before .before .before .before .before .before .before .before
 
-abbrev four-from-levels : tie.After-store-four Inv-loop μ-loop → tie.Then2 Inv-loop μ-loop
+abbrev four-from-levels : tie.After-store-levels Inv-loop μ-loop → tie.Then2 Inv-loop μ-loop
 four-from-levels c = c .before .before .before .before .before .before
 
-abbrev four-from-colours : tie.After-store-four2 Inv-loop μ-loop → tie.Then2 Inv-loop μ-loop
+abbrev four-from-colours : tie.After-store-four Inv-loop μ-loop → tie.Then2 Inv-loop μ-loop
 four-from-colours c = four-from-levels (levels-before c)
 
 inside : (c : tie.In-loop Inv-loop μ-loop) → c .before .loop .c < 4 ^ entry c .args .n
@@ -75,8 +75,11 @@ add-if1 c = omega (arith, one (c .before))
 store-codes-requires : tie.Need-store-codes-requires Inv-loop μ-loop
 store-codes-requires c κs = let t = four (c .before) in (t .in-codes, omega (arith, t))
 
-store-four-requires : tie.Need-store-four-requires Inv-loop μ-loop
-store-four-requires c κs = (omega arith, omega (arith, four (c .before .before .before .before .before)))
+store-levels-requires : tie.Need-store-levels-requires Inv-loop μ-loop
+store-levels-requires c κs = omega (arith, four (c .before .before .before .before .before))
+
+mul-store-four : tie.Need-mul-store-four Inv-loop μ-loop
+mul-store-four c = omega (arith, four (four-from-levels (c .before .before .before)))
 
 shared-slice-read-store-four : tie.Need-shared-slice-read-store-four Inv-loop μ-loop
 shared-slice-read-store-four c = omega (arith, four (four-from-levels (c .before .before .before .before)))
@@ -84,11 +87,17 @@ shared-slice-read-store-four c = omega (arith, four (four-from-levels (c .before
 add-store-four : tie.Need-add-store-four Inv-loop μ-loop
 add-store-four c = omega (arith, four (four-from-levels (c .before .before .before .before)))
 
+mul-store-four-2 : tie.Need-mul-store-four-2 Inv-loop μ-loop
+mul-store-four-2 c = omega (arith, four (four-from-levels (c .before .before .before .before)))
+
 shared-slice-read-store-four-2 : tie.Need-shared-slice-read-store-four-2 Inv-loop μ-loop
 shared-slice-read-store-four-2 c = omega (arith, four (four-from-levels (c .before .before .before .before .before)))
 
 add-store-four-2 : tie.Need-add-store-four-2 Inv-loop μ-loop
 add-store-four-2 c = omega (arith, four (four-from-levels (c .before .before .before .before .before)))
+
+mul-store-four-3 : tie.Need-mul-store-four-3 Inv-loop μ-loop
+mul-store-four-3 c = omega (arith, four (four-from-levels (c .before .before .before .before .before)))
 
 shared-slice-read-store-four-3 : tie.Need-shared-slice-read-store-four-3 Inv-loop μ-loop
 shared-slice-read-store-four-3 c = omega (arith, four (four-from-levels (c .before .before .before .before .before .before)))
@@ -99,11 +108,14 @@ add-store-four-3 c = omega (arith, four (four-from-levels (c .before .before .be
 add-store-four-4 : tie.Need-add-store-four-4 Inv-loop μ-loop
 add-store-four-4 c = omega (arith, four (four-from-levels (c .before .before .before .before .before .before)))
 
+mul-store-four-4 : tie.Need-mul-store-four-4 Inv-loop μ-loop
+mul-store-four-4 c = omega (arith, four (four-from-levels (c .before .before .before .before .before .before)))
+
 shared-slice-read-store-four-4 : tie.Need-shared-slice-read-store-four-4 Inv-loop μ-loop
 shared-slice-read-store-four-4 c = omega (arith, four (four-from-levels (c .before .before .before .before .before .before .before)))
 
-store-four-requires-2 : tie.Need-store-four-requires-2 Inv-loop μ-loop
-store-four-requires-2 c κs = (omega arith, omega (arith, four (four-from-levels (c .before .before .before .before .before .before .before))))
+store-four-requires : tie.Need-store-four-requires Inv-loop μ-loop
+store-four-requires c κs = (omega arith, omega (arith, four (four-from-levels (c .before .before .before .before .before .before .before))))
 
 add-count : tie.Need-add-count Inv-loop μ-loop
 add-count c = omega (arith, four (four-from-colours (c .before .before)))
@@ -123,7 +135,7 @@ loop-again c =
     let at = four-now .before .before in
     let now = at .before .before in
     merging-four (entry now .pre) (now .before .loop .inv) (now .loop-test .taken) (at .before .level-at .ensures) (placed at) (now .before .before .side .ensures)
-    (four-now .before .if1 .taken) (four-now .if2 .taken) (stored-codes .store-codes .ensures) (stored-levels .store-four .ensures) (stored .store-four2 .ensures)
+    (four-now .before .if1 .taken) (four-now .if2 .taken) (stored-codes .store-codes .ensures) (stored-levels .store-levels .ensures) (stored .store-four .ensures)
 
 mul-codes : tie.Need-mul-codes Inv-loop μ-loop
 mul-codes c = omega (arith, one (c .before .before))
@@ -137,10 +149,16 @@ cast-levels c = omega (arith, one (c .before .before))
 slice-write-levels : tie.Need-slice-write-levels Inv-loop μ-loop
 slice-write-levels c = one (c .before .before) .in-levels
 
+mul-colours : tie.Need-mul-colours Inv-loop μ-loop
+mul-colours c = let at = c .before in omega (arith, place-low (raster-of (entry (at .before .before) .pre)) (inside (at .before .before)) (placed at))
+
 shared-slice-read-colours : tie.Need-shared-slice-read-colours Inv-loop μ-loop
 shared-slice-read-colours c =
     let at = c .before .before in
     place-read (raster-of (entry (at .before .before) .pre)) (inside (at .before .before)) (placed at)
+
+mul-colours-2 : tie.Need-mul-colours-2 Inv-loop μ-loop
+mul-colours-2 c = search needs
 
 slice-write-colours : tie.Need-slice-write-colours Inv-loop μ-loop
 slice-write-colours c = one (c .before .before .before) .in-colours
@@ -193,16 +211,20 @@ merge-spec =
     place-requires
     add-if1
     store-codes-requires
-    store-four-requires
+    store-levels-requires
+    mul-store-four
     shared-slice-read-store-four
     add-store-four
+    mul-store-four-2
     shared-slice-read-store-four-2
     add-store-four-2
+    mul-store-four-3
     shared-slice-read-store-four-3
     add-store-four-3
     add-store-four-4
+    mul-store-four-4
     shared-slice-read-store-four-4
-    store-four-requires-2
+    store-four-requires
     add-count
     add-c
     loop-less
@@ -211,7 +233,9 @@ merge-spec =
     slice-write-codes
     cast-levels
     slice-write-levels
+    mul-colours
     shared-slice-read-colours
+    mul-colours-2
     slice-write-colours
     add-count-2
     pixels-requires

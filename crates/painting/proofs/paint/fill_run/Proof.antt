@@ -17,6 +17,9 @@ add-end c = search needs
 loop-holds : tie.Need-loop-holds Inv-loop μ-loop
 loop-holds c = begin _ _ _ _
 
+mul-raster : tie.Need-mul-raster Inv-loop μ-loop
+mul-raster c = search needs
+
 slice-write-raster : tie.Need-slice-write-raster Inv-loop μ-loop
 slice-write-raster c = search needs
 
@@ -43,6 +46,7 @@ fill-run-spec =
     μ-loop
     add-end
     loop-holds
+    mul-raster
     slice-write-raster
     add-i
     loop-less

@@ -47,6 +47,9 @@ shared-slice-read-place c = search needs
 place-requires : tie.Need-place-requires Inv-loop μ-loop
 place-requires c κs = search needs
 
+mul-v : tie.Need-mul-v Inv-loop μ-loop
+mul-v c = search needs
+
 shared-slice-read-v : tie.Need-shared-slice-read-v Inv-loop μ-loop
 shared-slice-read-v c = search needs
 
@@ -65,17 +68,26 @@ add-if2 c = search needs
 add-store-four : tie.Need-add-store-four Inv-loop μ-loop
 add-store-four c = search needs
 
+mul-store-four : tie.Need-mul-store-four Inv-loop μ-loop
+mul-store-four c = search needs
+
 shared-slice-read-store-four : tie.Need-shared-slice-read-store-four Inv-loop μ-loop
 shared-slice-read-store-four c = search needs
 
 add-store-four-2 : tie.Need-add-store-four-2 Inv-loop μ-loop
 add-store-four-2 c = search needs
 
+mul-store-four-2 : tie.Need-mul-store-four-2 Inv-loop μ-loop
+mul-store-four-2 c = search needs
+
 shared-slice-read-store-four-2 : tie.Need-shared-slice-read-store-four-2 Inv-loop μ-loop
 shared-slice-read-store-four-2 c = search needs
 
 add-store-four-3 : tie.Need-add-store-four-3 Inv-loop μ-loop
 add-store-four-3 c = search needs
+
+mul-store-four-3 : tie.Need-mul-store-four-3 Inv-loop μ-loop
+mul-store-four-3 c = search needs
 
 shared-slice-read-store-four-3 : tie.Need-shared-slice-read-store-four-3 Inv-loop μ-loop
 shared-slice-read-store-four-3 c = search needs
@@ -138,16 +150,20 @@ paint-spec =
     mul-place
     shared-slice-read-place
     place-requires
+    mul-v
     shared-slice-read-v
     mul-if1
     shared-slice-read-if1
     add-if1
     add-if2
     add-store-four
+    mul-store-four
     shared-slice-read-store-four
     add-store-four-2
+    mul-store-four-2
     shared-slice-read-store-four-2
     add-store-four-3
+    mul-store-four-3
     shared-slice-read-store-four-3
     store-four-requires
     add-i
