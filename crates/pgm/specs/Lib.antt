@@ -8,5 +8,6 @@ pub mod Reading
 pub mod Judging
 pub mod Accepted
 pub mod Callers
+pub mod Causes
 pub mod Remarks
 pub mod Examples

@@ -6,7 +6,8 @@ use Prim.Native.Nat.{ℕ, zero, suc, _+_, _*_, _≤_, _<_}
 use native.Mathlib.Omega.{arith}
 use lib.Dec.{ltb}
 use lib.ListN.{length, getD}
-use borrow.Author.Tests.{ltb-false, le-ltb}
+use borrow.Author.Tests.{ltb-false, lt-ltb, le-ltb}
+use Rattle.sequences.specs.Cases.{or-right}
 use Rattle.sequences.specs.Ranges.{tabulate, length-tabulate, tabulate-at}
 
 -- "For maxval above 255 a sample is two bytes" (document 02, i).
@@ -17,6 +18,11 @@ isWide maxval = ltb 255 maxval
 unfoldable pub sampleBytes : Bool → ℕ
 sampleBytes false = 1
 sampleBytes true = 2
+
+-- The greatest sample of a width.
+unfoldable pub mostOf : Bool → ℕ
+mostOf false = 255
+mostOf true = 65535
 
 -- The sample i of the bytes that a header leaves; of two bytes "the most significant first" (document 02, i).
 unfoldable pub sampleAt : Bool → List ℕ → ℕ → ℕ
@@ -49,6 +55,12 @@ pub two-bytes : {wide : Bool} → wide ≡ true → sampleBytes wide ≡ 2
 unfolding sampleBytes
 two-bytes e = ap sampleBytes e
 
+-- Of bytes no sample is above the greatest of its width.
+pub most-is-most : (wide : Bool) (bytes : List ℕ) (i : ℕ) → ((k : ℕ) → getD bytes k 0 < 256) → sampleAt wide bytes i ≤ mostOf wide
+unfolding sampleAt mostOf
+most-is-most false bytes i each = omega (arith, each i)
+most-is-most true bytes i each = omega (arith, each (2 * i), each (2 * i + 1))
+
 -- No sample has less than a byte.
 pub bytes-at-least : (wide : Bool) (count : ℕ) → count ≤ sampleBytes wide * count
 unfolding sampleBytes
@@ -70,3 +82,10 @@ pub none-above : (maxval : ℕ) (values : List ℕ) → ((i : ℕ) → i < lengt
 unfolding anyAbove
 none-above maxval [] h = refl
 none-above maxval (v ∷ values) h = rw (le-ltb maxval v (h 0 (omega arith))) (none-above maxval values (λ i l. h (suc i) (omega arith)))
+
+-- One that is above is found.
+pub some-above : (maxval : ℕ) (values : List ℕ) (i : ℕ) → i < length values → maxval < getD values i 0 → anyAbove maxval values ≡ true
+unfolding anyAbove
+some-above maxval [] i l h = absurd (omega arith)
+some-above maxval (v ∷ values) zero l h = rw (lt-ltb maxval v h) refl
+some-above maxval (v ∷ values) (suc i) l h = or-right (ltb maxval v) (anyAbove maxval values) (some-above maxval values i (omega arith) h)
