@@ -118,13 +118,19 @@ pub fn rasters() -> bool {
     reading() && equal
 }
 
-/// Pictures of 256 by 256 read into a raster, of one byte a sample and of two. Says whether all answers were equal.
+/// Pictures of 256 by 256 read into a raster, of one byte a sample and of two, with the greatest maxval of that width and with a smaller
+/// one. Says whether all answers were equal.
 fn reading() -> bool {
     let mut equal = true;
     println!("\nA picture of 256 by 256 read into a raster, microseconds");
     println!("{:<28} | {:^28} |", "", "read_pgm");
     println!("{:<28} | {HEADING} | answers", "");
-    for (name, maxval) in [("maxval 255, one byte", 255), ("maxval 65,535, two bytes", 65_535)] {
+    for (name, maxval) in [
+        ("maxval 255, one byte", 255),
+        ("maxval 200, one byte", 200),
+        ("maxval 65,535, two bytes", 65_535),
+        ("maxval 1,000, two bytes", 1_000),
+    ] {
         let read = |side: &Side, bytes: &[u8]| {
             let mut raster = vec![9; 65_537];
             ((side.read_pgm)(bytes, &mut raster), raster)

@@ -63,7 +63,7 @@ fn levels_alike(levels: &[u8], i: usize) -> bool
     first + 256 * second + 65536 * third + 16777216 * fourth == 16843009 * first
 }
 
-// Whether the four colours from i on are equal, asked in the same way.
+// Whether the four colours from i on are equal, asked in the same way: the last number has the digit 1 four times to the base 65,536.
 fn colours_alike(colours: &[u16], i: usize) -> bool
     requires { ⌜ i + 3 < length (now colours) ⌝ }
     ensures { λ r. ⌜ r ≡ alikeFrom (now (colours .entry)) i ⌝ }

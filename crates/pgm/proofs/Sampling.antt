@@ -9,7 +9,7 @@ use lib.ListN.{length, getD, set}
 use Rattle.sequences.specs.Ranges.{range, tabulate}
 use Rattle.sequences.specs.Over.{over}
 use Rattle.answers.specs.Put.{PutSoFar, put-none, put-entry, put-all}
-use Rattle.pgm.specs.Samples.{sampleBytes, sampleAt, samplesOf, mostOf, anyAbove, length-samples, samples-at, one-byte, two-bytes, most-is-most, none-above}
+use Rattle.pgm.specs.Samples.{sampleBytes, sampleAt, samplesOf, greatestOf, anyAbove, length-samples, samples-at, one-byte, two-bytes, at-most-greatest, none-above}
 
 -- The bytes of one sample, among `size` bytes.
 module _ (size i : ℕ) {wide : Bool} (room : sampleBytes wide * (i + 1) ≤ size) where
@@ -63,10 +63,10 @@ module _ (wide : Bool) (count : ℕ) (bytes : List ℕ) where
     abbrev pub Looked : Bool → ℕ → Type 0
     Looked found i = found || anyAbove maxval (left i) ≡ anyAbove maxval (samplesOf wide count bytes)
 
-    pub looked-at-most : maxval ≡ mostOf wide → ((k : ℕ) → getD bytes k 0 < 256) → false ≡ anyAbove maxval (samplesOf wide count bytes)
-    looked-at-most e each =
+    pub looked-at-greatest : maxval ≡ greatestOf wide → ((k : ℕ) → getD bytes k 0 < 256) → false ≡ anyAbove maxval (samplesOf wide count bytes)
+    looked-at-greatest e each =
         sym (none-above maxval (samplesOf wide count bytes)
-        (λ i h. let l : i < count = omega (arith, length-samples wide count bytes) in omega (arith, samples-at wide count bytes i l, most-is-most wide bytes i each, e)))
+        (λ i h. let l : i < count = omega (arith, length-samples wide count bytes) in omega (arith, samples-at wide count bytes i l, at-most-greatest wide bytes i each, e)))
 
     pub looked-none : Looked false 0
     looked-none = ap (anyAbove maxval) all-left

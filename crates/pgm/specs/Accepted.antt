@@ -16,7 +16,7 @@ use Rattle.headers.specs.Layout.{next-on}
 use Rattle.headers.specs.FileLaws.{header-is-file, file-is-header, header-10}
 use Rattle.pgm.specs.Exponent.{exponent-of-power}
 use Rattle.pgm.specs.Samples.{isWide, sampleBytes, samplesOf, anyAbove, length-samples, each-at-most, none-above}
-use Rattle.pgm.specs.Picture.{judged, picture, Scan, nothing, said, scan}
+use Rattle.pgm.specs.Picture.{judged, picture, nothing, said, scan}
 use Rattle.pgm.specs.Shaped.{shaped, size-right, not-outside, refused-11-to-13}
 use Rattle.pgm.specs.Scans.{refused-scan, shape-scan, facts, above-scan, held-scan}
 use Rattle.pgm.specs.declared.shape.Shape.{Shape}

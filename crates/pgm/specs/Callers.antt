@@ -1,20 +1,22 @@
 -- Laws for callers: what the promise of `read` says of an accepted picture and of a refused one.
-use mathlib.Core.Path.{_≡_, refl, sym, ap, ap₂, _∙_, subst}
+use mathlib.Core.Path.{_≡_, refl, sym, ap, ap₂, _∙_}
 use mathlib.Core.Bool.{Bool, true, false}
 use mathlib.Core.Logic.{_⊎_, inl, inr, _↔_, ⊎-elim}
-use mathlib.Core.List.{List, []}
-use Prim.Native.Nat.{ℕ, zero, suc, _+_, _*_, _-_, _^_, _≤_, _<_}
+use mathlib.Core.List.{List}
+use Prim.Native.Nat.{ℕ, _+_, _*_, _-_, _^_, _≤_, _<_}
 use native.Mathlib.Decide.{ℕ-discrete, decLt}
 use native.Mathlib.Omega.{arith}
 use lib.ListN.{length, take, getD}
 use lib.Seq.{getD-take, getD-drop}
 use borrow.Author.Tests.{le-ltb, lt-ltb}
-use Rattle.sequences.specs.Over.{over, take-over, over-inside, over-beyond, length-over}
-use Rattle.headers.specs.FileLaws.{raster-at-end}
-use Rattle.pgm.specs.Samples.{isWide, sampleBytes, sampleAt, length-samples, samples-at, one-byte, two-bytes}
+use Rattle.sequences.specs.Over.{over, take-over, over-beyond, length-over}
+use Rattle.headers.specs.Parser.{bad}
+use Rattle.headers.specs.Header.{header}
+use Rattle.headers.specs.FileLaws.{raster-short, raster-at-end}
+use Rattle.pgm.specs.Samples.{isWide, sampleBytes, sampleAt, length-samples, samples-at, one-byte, two-bytes, bytes-at-least}
 use Rattle.pgm.specs.Picture.{Scan, nothing, scan}
-use Rattle.pgm.specs.Reading.{refusal, answerWith, answer, Answered, Reading, cause-answered, short-answered, stored-answered, all-written, answer-accepted}
-use Rattle.pgm.specs.Accepted.{AcceptedPicture, Passed, Refused, accepted-scan, accepted-or-refused}
+use Rattle.pgm.specs.Reading.{refusal, answerWith, Answered, Reading, cause-answered, short-answered, stored-answered}
+use Rattle.pgm.specs.Accepted.{AcceptedPicture, Passed, Refused, bad-scan, accepted-scan, accepted-or-refused}
 use Rattle.pgm.specs.declared.Picture.{Picture}
 
 -- What a file holds, by its number.
@@ -47,22 +49,32 @@ module _ (bytes : List ℕ) where
       refused : Refused bytes → (10 ≤ scan bytes .number) × (scan bytes .number ≤ 14)
       refused r = rw (r .says) (r .least, r .most)
 
+  pub number-low : scan bytes .number ≤ 14
+  number-low = pick (ℕ-discrete (scan bytes .number) 0)
+    where
+      pick : Dec (scan bytes .number ≡ 0) → scan bytes .number ≤ 14
+      pick (yes z) = omega (arith, z)
+      pick (no d) = refused-number d .1
+
   -- An accepted picture has 4^n samples.
   pub raster-is-square : scan bytes .number ≡ 0 → length (scan bytes .raster) ≡ 4 ^ scan bytes .n
   raster-is-square z = let a = zero-accepted z in ap length (a .samples) ∙ length-samples (isWide (scan bytes .maxval)) (4 ^ scan bytes .n) (a .rest)
 
+  -- Behind a header they take at least a byte each.
+  pub longer-than-samples : scan bytes .number ≡ 0 → 4 ^ scan bytes .n < length bytes
+  longer-than-samples z =
+      let a = zero-accepted z in
+      omega (arith, raster-short bytes (a .rest) _ (a .file), a .full, bytes-at-least (isWide (scan bytes .maxval)) (4 ^ scan bytes .n))
+
 -- What a caller of `read` knows of its answer and of the raster.
 module _ {bytes lent bytes′ lent′ : List ℕ} {r : Picture} (p : Reading bytes lent bytes′ lent′ r) where
-  a : Answered (scan bytes) lent lent′ r
-  a = p .answered
-
-  -- The four answers: 10 to 14, then 8, then acceptance.
+  -- The answers: one of 10 to 14, then 8, then acceptance.
   module _ {raster″ : List ℕ} {q : Picture} (b : Answered (scan bytes) lent raster″ q) where
     same-answer : r ≡ q
-    same-answer = a .answer-is ∙ sym (b .answer-is)
+    same-answer = p .answered .answer-is ∙ sym (b .answer-is)
 
     same-raster : lent′ ≡ raster″
-    same-raster = a .in-raster ∙ sym (b .in-raster)
+    same-raster = p .answered .in-raster ∙ sym (b .in-raster)
 
   -- A file that is refused: its number, zeros, and the raster as it was, however long it is.
   pub file-refused : (scan bytes .number ≡ 0 → ⊥) → (r ≡ refusal (scan bytes .number)) × (lent′ ≡ lent)
@@ -70,6 +82,18 @@ module _ {bytes lent bytes′ lent′ : List ℕ} {r : Picture} (p : Reading byt
       let n = refused-number bytes d in
       let b = cause-answered (scan bytes) lent {k = scan bytes .number} (omega (arith, n .0)) refl in
       (same-answer b, same-raster b)
+
+  -- A file that holds nothing but a number.
+  pub refused-with : {k : ℕ} → 0 < k → scan bytes ≡ nothing k → (r ≡ refusal k) × (lent′ ≡ lent)
+  unfolding nothing
+  refused-with {k} some e =
+      let number = ap (λ (s : Scan). s .number) e in
+      let told = file-refused (λ z. let no : ⊥ = omega (arith, number, z) in no) in
+      (told .0 ∙ ap refusal number, told .1)
+
+  -- "PGM header not as above" (10).
+  pub bad-header-read : header bytes ≡ bad → (r ≡ refusal 10) × (lent′ ≡ lent)
+  bad-header-read e = refused-with (omega arith) (bad-scan bytes e)
 
   module _ (z : scan bytes .number ≡ 0) where
     -- "8 for the raster comes after 14": a picture, and a raster of fewer than 4^n entries.
@@ -87,7 +111,7 @@ module _ {bytes lent bytes′ lent′ : List ℕ} {r : Picture} (p : Reading byt
         )
 
   -- Which of them it is, is told by the file and by the length of the raster.
-  pub data Case : Type 0 where
+  data Case : Type 0 where
     refused : (scan bytes .number ≡ 0 → ⊥) → Case
     short : scan bytes .number ≡ 0 → length lent < 4 ^ scan bytes .n → Case
     written : scan bytes .number ≡ 0 → 4 ^ scan bytes .n ≤ length lent → Case

@@ -1,25 +1,26 @@
--- Where a caller stands: which number a file gets past 11, cause by cause (document 02, i, "Checks").
+-- Where a caller stands: which number a file gets, cause by cause.
 use mathlib.Core.Path.{_≡_, refl, sym, ap, ap₂, _∙_}
-use mathlib.Core.Bool.{Bool, true, false, not}
+use mathlib.Core.Bool.{true, not}
 use mathlib.Core.Logic.{_⊎_, inl, inr}
 use mathlib.Core.List.{List}
-use Prim.Native.Nat.{ℕ, zero, suc, _*_, _^_, _≤_, _<_}
+use Prim.Native.Nat.{ℕ, _*_, _^_, _≤_, _<_}
 use native.Mathlib.Omega.{arith}
-use lib.Dec.{ltb, eqb}
-use lib.ListN.{length, getD}
-use borrow.Author.Tests.{lt-ltb, le-ltb, eq-eqb, ne-eqb}
+use lib.Dec.{ltb}
+use lib.ListN.{length}
+use borrow.Author.Tests.{lt-ltb, eq-eqb, ne-eqb}
 use Rattle.sequences.specs.Cases.{or-right}
 use Rattle.sequences.specs.Powers.{square-of-side}
 use Rattle.headers.specs.Header.{Fields}
 use Rattle.headers.specs.File.{File}
+use Rattle.headers.specs.FileLaws.{bad-header-exactly}
 use Rattle.pgm.specs.Exponent.{exponent, exponent-of-power}
 use Rattle.pgm.specs.Samples.{isWide, sampleBytes, sampleAt, samplesOf, anyAbove, length-samples, samples-at, some-above, none-above}
-use Rattle.pgm.specs.Picture.{outside, Scan, nothing, scan}
-use Rattle.pgm.specs.Shaped.{shaped, maxval-outside, size-wrong, size-right, not-outside}
+use Rattle.pgm.specs.Picture.{outside, Scan}
+use Rattle.pgm.specs.Shaped.{shaped, not-square, maxval-outside, size-wrong, size-right, not-outside}
 use Rattle.pgm.specs.Scans.{shape-scan, above-scan, held-scan}
 use Rattle.pgm.specs.Reading.{refusal, Reading}
 use Rattle.pgm.specs.Accepted.{file-scan}
-use Rattle.pgm.specs.Callers.{file-refused, raster-too-short}
+use Rattle.pgm.specs.Callers.{refused-with, bad-header-read, raster-too-short}
 use Rattle.pgm.specs.declared.Picture.{Picture}
 use Rattle.pgm.specs.declared.shape.PowerOfTwo.{PowerOfTwo}
 use Rattle.pgm.specs.declared.shape.Shape.{Shape}
@@ -27,6 +28,15 @@ use Rattle.pgm.specs.declared.shape.Shape.{Shape}
 -- A refusal: the number with zeros, and the raster as it was.
 abbrev RefusedWith : ℕ → Picture → List ℕ → List ℕ → Type 0
 RefusedWith k r lent lent′ = (r ≡ refusal k) × (lent′ ≡ lent)
+
+-- What is no file is 10, and one whose width and height are not one power of two from 1 to 256 is 11.
+pub ten : {bytes lent bytes′ lent′ : List ℕ} {r : Picture} → Reading bytes lent bytes′ lent′ r → ((f : Fields) (rest : List ℕ) → File bytes f rest → ⊥) → RefusedWith 10 r lent lent′
+ten {bytes} p none = bad-header-read p (bad-header-exactly bytes .1 none)
+
+pub eleven : {bytes rest lent bytes′ lent′ : List ℕ} {f : Fields} {r : Picture} → File bytes f rest → Reading bytes lent bytes′ lent′ r
+    → ((n : ℕ) → n ≤ 8 → f .width ≡ 2 ^ n → f .height ≡ 2 ^ n → ⊥) → RefusedWith 11 r lent lent′
+eleven {bytes} {rest} {f = f} x p none =
+    refused-with p (omega arith) (file-scan bytes rest f x ∙ shape-scan f rest (sym (not-square f (length rest) none)))
 
 -- A file whose width and height pass 11, and a call of `read`.
 module _ {bytes rest lent bytes′ lent′ : List ℕ} {f : Fields} {n : ℕ} {r : Picture} (x : File bytes f rest) (width : f .width ≡ 2 ^ n) (height : f .height ≡ 2 ^ n)
@@ -40,17 +50,10 @@ module _ {bytes rest lent bytes′ lent′ : List ℕ} {f : Fields} {n : ℕ} {r
   count-is : f .width * f .height ≡ 4 ^ n
   count-is = ap₂ (λ (a b : ℕ). a * b) width height ∙ square-of-side n
 
-  refused-with : {k : ℕ} → 0 < k → scan bytes ≡ nothing k → RefusedWith k r lent lent′
-  unfolding nothing
-  refused-with {k} some e =
-      let number = ap (λ (s : Scan). s .number) e in
-      let told = file-refused p (λ z. let no : ⊥ = omega (arith, number, z) in no) in
-      (told .0 ∙ ap refusal number, told .1)
-
   -- "12 now means a maxval outside 1 to 65,535".
   pub twelve : (f .maxval < 1) ⊎ (65535 < f .maxval) → RefusedWith 12 r lent lent′
   unfolding outside
-  twelve h = refused-with (omega arith) (file-scan bytes rest f x ∙ shape-scan f rest (sym (maxval-outside f (length rest) equal power (told h))))
+  twelve h = refused-with p (omega arith) (file-scan bytes rest f x ∙ shape-scan f rest (sym (maxval-outside f (length rest) equal power (told h))))
     where
       told : (f .maxval < 1) ⊎ (65535 < f .maxval) → outside f ≡ true
       told (inl l) = rw (lt-ltb (f .maxval) 1 l) refl
@@ -64,7 +67,7 @@ module _ {bytes rest lent bytes′ lent′ : List ℕ} {f : Fields} {n : ℕ} {r
     pub thirteen : (length rest ≡ sampleBytes (isWide (f .maxval)) * 4 ^ n → ⊥) → RefusedWith 13 r lent lent′
     thirteen d =
         let test = ap not (ne-eqb (length rest) (sampleBytes (isWide (f .maxval)) * (f .width * f .height)) (λ e. d (e ∙ need-is))) in
-        refused-with (omega arith) (file-scan bytes rest f x ∙ shape-scan f rest (sym (size-wrong f (length rest) equal power (not-outside f low high) test)))
+        refused-with p (omega arith) (file-scan bytes rest f x ∙ shape-scan f rest (sym (size-wrong f (length rest) equal power (not-outside f low high) test)))
 
     module _ (full : length rest ≡ sampleBytes (isWide (f .maxval)) * 4 ^ n) where
       shape : shaped f (length rest) ≡ Shape.Samples n (f .width * f .height) (isWide (f .maxval))
@@ -78,7 +81,7 @@ module _ {bytes rest lent bytes′ lent′ : List ℕ} {f : Fields} {n : ℕ} {r
       fourteen i h above =
           let values : List ℕ = samplesOf (isWide (f .maxval)) (4 ^ n) rest in
           let found = some-above (f .maxval) values i (omega (arith, length-samples (isWide (f .maxval)) (4 ^ n) rest)) (omega (arith, samples-at (isWide (f .maxval)) (4 ^ n) rest i h)) in
-          refused-with (omega arith) (file-scan bytes rest f x ∙ above-scan f rest shape (ap (anyAbove (f .maxval)) same ∙ found))
+          refused-with p (omega arith) (file-scan bytes rest f x ∙ above-scan f rest shape (ap (anyAbove (f .maxval)) same ∙ found))
 
       -- "8 for the raster comes after 14".
       pub eight : ((i : ℕ) → i < 4 ^ n → sampleAt (isWide (f .maxval)) rest i ≤ f .maxval) → length lent < 4 ^ n → RefusedWith 8 r lent lent′

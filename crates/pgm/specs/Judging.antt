@@ -16,7 +16,7 @@ use Rattle.pgm.specs.Reading.{refusal, answerWith, Answered, cause-answe
 use Rattle.pgm.specs.declared.Picture.{Picture}
 use Rattle.pgm.specs.declared.shape.Shape.{Shape}
 
--- What is answered of a file is answered of its fields and its raster.
+-- What is answered of the fields and the bytes behind them is answered of the file.
 pub file-answered : {p q : Parsed Fields} {lent lent′ : List ℕ} {r : Picture} → p ≡ q → Answered (said q) lent lent′ r → Answered (said p) lent lent′ r
 file-answered {p} {q} {lent} {lent′} {r} e a = subst⁻¹ (λ (x : Parsed Fields). Answered (said x) lent lent′ r) e a
 

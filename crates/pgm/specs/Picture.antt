@@ -27,12 +27,12 @@ filled f size = eqb size (sampleBytes (isWide (f .maxval)) * (f .width * f .heig
 -- The samples, width times height of them, row by row.
 unfoldable pub samples : Fields → List ℕ → List ℕ
 unfolding isWide samplesOf
-samples f raster = samplesOf (isWide (f .maxval)) (f .width * f .height) raster
+samples f rest = samplesOf (isWide (f .maxval)) (f .width * f .height) rest
 
 -- The causes 11 to 14 in rising order, asked of what a whole header leaves.
 unfoldable pub judged : Fields → Parser Fields
 unfolding square outside filled samples anyAbove demand
-judged f raster = demand 11 (square f) (demand 12 (not (outside f)) (demand 13 (filled f (length raster)) (demand 14 (not (anyAbove (f .maxval) (samples f raster))) (got f raster))))
+judged f rest = demand 11 (square f) (demand 12 (not (outside f)) (demand 13 (filled f (length rest)) (demand 14 (not (anyAbove (f .maxval) (samples f rest))) (got f rest))))
 
 -- "PGM: rising" (document 01, the order of the checks): the whole header is judged before 11.
 unfoldable pub picture : Parser Fields
@@ -48,14 +48,17 @@ pub record Scan : Type 0 where
   pub maxval : ℕ
   pub raster : List ℕ
 
+-- A refused file.
 unfoldable pub nothing : ℕ → Scan
 nothing k = record { number = k; n = 0; maxval = 0; raster = [] }
 
+-- What is said of the fields and the bytes behind the header.
 unfoldable pub said : Parsed Fields → Scan
 unfolding nothing exponent samples
 said (refused k) = nothing k
-said (got f raster) = record { number = 0; n = sideN (exponent (f .width)); maxval = f .maxval; raster = samples f raster }
+said (got f rest) = record { number = 0; n = sideN (exponent (f .width)); maxval = f .maxval; raster = samples f rest }
 
+-- What the bytes of a file hold.
 unfoldable pub scan : List ℕ → Scan
 unfolding said picture
 scan bytes = said (picture bytes)

@@ -27,6 +27,7 @@ unfolding refusal
 answerWith zero s = record { number = 0; n = s .n; maxval = s .maxval; count = length (s .raster) }
 answerWith (suc k) s = refusal (suc k)
 
+-- The answer for a lent raster of `room` entries.
 unfoldable pub answer : Scan → ℕ → Picture
 unfolding answerWith readNumber
 answer s room = answerWith (readNumber s room) s
@@ -75,11 +76,11 @@ module _ (s : Scan) (raster : List ℕ) where
       read-accepted : readNumber s (length raster) ≡ 0
       read-accepted = after-14 ∙ when-no (ltb (length raster) (4 ^ s .n)) 8 (le-ltb (length raster) (4 ^ s .n) enough)
 
-      pub all-written : samplesWritten s (length raster) ≡ s .raster
+      all-written : samplesWritten s (length raster) ≡ s .raster
       unfolding samplesWritten
       all-written = written-accepted (readNumber s (length raster)) (s .raster) read-accepted
 
-      pub answer-accepted : answer s (length raster) ≡ answerWith 0 s
+      answer-accepted : answer s (length raster) ≡ answerWith 0 s
       unfolding answer
       answer-accepted = ap (λ (m : ℕ). answerWith m s) read-accepted
 

@@ -1,9 +1,8 @@
 -- Remarks in a header, where a caller stands: what is answered as before, what is 10, and that white space makes no difference (document 02, a).
-use mathlib.Core.Path.{_≡_, refl, sym, ap, ap₂, _∙_}
+use mathlib.Core.Path.{_≡_, refl, sym, ap, _∙_}
 use mathlib.Core.Logic.{_⊎_, inl, inr, ⊎-elim}
 use mathlib.Core.List.{List, _∷_}
 use Prim.Native.Nat.{ℕ, _≤_}
-use native.Mathlib.Omega.{arith}
 use lib.ListN.{length}
 use Rattle.sequences.specs.Over.{over}
 use Rattle.headers.specs.Parser.{Parsed, refused, got, bad, next}
@@ -14,8 +13,8 @@ use Rattle.headers.specs.Plain.{plainSpaces, plainHeader}
 use Rattle.headers.specs.Remarks.{Numerals, Unending, plain-header-accepts-exactly, plain-accepted, plain-header-10, unending-remark, sign-after-maxval}
 use Rattle.pgm.specs.Picture.{judged, picture, Scan, nothing, said, scan}
 use Rattle.pgm.specs.Reading.{refusal, answer, samplesWritten, Reading}
-use Rattle.pgm.specs.Accepted.{file-scan, bad-scan}
-use Rattle.pgm.specs.Callers.{file-refused}
+use Rattle.pgm.specs.Accepted.{file-scan}
+use Rattle.pgm.specs.Callers.{bad-header-read}
 use Rattle.pgm.specs.declared.Picture.{Picture}
 
 -- What a file held when a number sign was not white space, as document 01 had it.
@@ -68,19 +67,13 @@ module _ {bytes lent bytes′ lent′ : List ℕ} {r : Picture} (p : Reading byt
   pub read-narrows : (r ≡ answer (plainScan bytes) (length lent) → ⊥) → plainScan bytes .number ≡ 10
   read-narrows d = ⊎-elim (λ same. absurd (d (p .answered .answer-is ∙ ap (λ (s : Scan). answer s (length lent)) same))) (λ ten. ten) (as-before-or-10 bytes)
 
-  bad-read : header bytes ≡ bad → r ≡ refusal 10
-  unfolding nothing
-  bad-read e =
-      let ten = ap (λ (s : Scan). s .number) (bad-scan bytes e) in
-      file-refused p (λ z. let no : ⊥ = omega (arith, ten, z) in no) .0 ∙ ap refusal ten
-
   -- "a number sign straight after maxval is a bad header".
-  pub sign-after-maxval-is-10 : {k : ℕ} {rest l : List ℕ} → bytes ≡ 80 ∷ 53 ∷ l → Numerals (35 ∷ rest) k l → k ≡ 3 → r ≡ refusal 10
-  sign-after-maxval-is-10 e x three = bad-read (ap header e ∙ sign-after-maxval x three)
+  pub sign-after-maxval-is-10 : {k : ℕ} {rest l : List ℕ} → bytes ≡ 80 ∷ 53 ∷ l → Numerals (35 ∷ rest) k l → k ≡ 3 → (r ≡ refusal 10) × (lent′ ≡ lent)
+  sign-after-maxval-is-10 e x three = bad-header-read p (ap header e ∙ sign-after-maxval x three)
 
   -- "A remark that never ends is a bad header."
-  pub unending-remark-is-10 : {k : ℕ} {rest l : List ℕ} → bytes ≡ 80 ∷ 53 ∷ l → Numerals rest k l → k ≤ 2 → Unending rest → r ≡ refusal 10
-  unending-remark-is-10 e x few u = bad-read (ap header e ∙ unending-remark u x few)
+  pub unending-remark-is-10 : {k : ℕ} {rest l : List ℕ} → bytes ≡ 80 ∷ 53 ∷ l → Numerals rest k l → k ≤ 2 → Unending rest → (r ≡ refusal 10) × (lent′ ≡ lent)
+  unending-remark-is-10 e x few u = bad-header-read p (ap header e ∙ unending-remark u x few)
 
 -- "count as white space": two files that differ in their white space alone are answered alike, and leave one raster.
 pub white-space-alone : {bytes₁ bytes₂ rest lent after₁ after₂ lent₁ lent₂ : List ℕ} {f : Fields} {r₁ r₂ : Picture} → File bytes₁ f rest → File bytes₂ f rest

@@ -1,5 +1,5 @@
 -- The samples of a picture: one byte each, or two.
-use mathlib.Core.Path.{_≡_, refl, sym, ap, _∙_}
+use mathlib.Core.Path.{_≡_, refl, ap}
 use mathlib.Core.Bool.{Bool, true, false, _||_, true≢false}
 use mathlib.Core.List.{List, [], _∷_}
 use Prim.Native.Nat.{ℕ, zero, suc, _+_, _*_, _≤_, _<_}
@@ -20,9 +20,9 @@ sampleBytes false = 1
 sampleBytes true = 2
 
 -- The greatest sample of a width.
-unfoldable pub mostOf : Bool → ℕ
-mostOf false = 255
-mostOf true = 65535
+unfoldable pub greatestOf : Bool → ℕ
+greatestOf false = 255
+greatestOf true = 65535
 
 -- The sample i of the bytes that a header leaves; of two bytes "the most significant first" (document 02, i).
 unfoldable pub sampleAt : Bool → List ℕ → ℕ → ℕ
@@ -56,10 +56,10 @@ unfolding sampleBytes
 two-bytes e = ap sampleBytes e
 
 -- Of bytes no sample is above the greatest of its width.
-pub most-is-most : (wide : Bool) (bytes : List ℕ) (i : ℕ) → ((k : ℕ) → getD bytes k 0 < 256) → sampleAt wide bytes i ≤ mostOf wide
-unfolding sampleAt mostOf
-most-is-most false bytes i each = omega (arith, each i)
-most-is-most true bytes i each = omega (arith, each (2 * i), each (2 * i + 1))
+pub at-most-greatest : (wide : Bool) (bytes : List ℕ) (i : ℕ) → ((k : ℕ) → getD bytes k 0 < 256) → sampleAt wide bytes i ≤ greatestOf wide
+unfolding sampleAt greatestOf
+at-most-greatest false bytes i each = omega (arith, each i)
+at-most-greatest true bytes i each = omega (arith, each (2 * i), each (2 * i + 1))
 
 -- No sample has less than a byte.
 pub bytes-at-least : (wide : Bool) (count : ℕ) → count ≤ sampleBytes wide * count

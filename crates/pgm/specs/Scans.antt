@@ -7,8 +7,8 @@ use lib.ListN.{length}
 use Rattle.headers.specs.Parser.{Parsed, refused, got, demand}
 use Rattle.headers.specs.Header.{Fields}
 use Rattle.pgm.specs.Samples.{samplesOf, anyAbove}
-use Rattle.pgm.specs.Picture.{samples, judged, Scan, nothing, said}
-use Rattle.pgm.specs.Shaped.{shaped, judgedFrom, judged-by-shape, Shapely, shapely}
+use Rattle.pgm.specs.Picture.{samples, judged, nothing, said}
+use Rattle.pgm.specs.Shaped.{shaped, judgedFrom, judged-by-shape, ShapeFacts, shape-facts}
 use Rattle.pgm.specs.declared.shape.Shape.{Shape}
 
 -- The number of a refusal from 10 to 14.
@@ -23,8 +23,8 @@ module _ (f : Fields) (rest : List ℕ) where
   shape-scan e = refused-scan (judged-by-shape f rest ∙ ap (judgedFrom f rest) e)
 
   module _ {n count : ℕ} {wide : Bool} (e : shaped f (length rest) ≡ Shape.Samples n count wide) where
-    pub facts : Shapely f (length rest) n count wide
-    facts = shapely f (length rest) e
+    pub facts : ShapeFacts f (length rest) n count wide
+    facts = shape-facts f (length rest) e
 
     then-14 : judged f rest ≡ demand 14 (not (anyAbove (f .maxval) (samplesOf wide count rest))) (got f rest)
     unfolding judgedFrom

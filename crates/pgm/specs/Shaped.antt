@@ -2,7 +2,7 @@
 use mathlib.Core.Path.{_≡_, refl, sym, ap, ap₂, _∙_}
 use mathlib.Core.Bool.{Bool, true, false, not, false≢true}
 use mathlib.Core.List.{List}
-use Prim.Native.Nat.{ℕ, _*_, _^_, _≤_, _<_}
+use Prim.Native.Nat.{ℕ, _*_, _^_, _≤_}
 use native.Mathlib.Omega.{arith}
 use lib.Dec.{ltb, eqb}
 use lib.ListN.{length}
@@ -27,22 +27,43 @@ unfolding demandShape square outside filled isWide exponent
 shaped f size =
     demandShape 11 (square f) (demandShape 12 (not (outside f)) (demandShape 13 (filled f size) (Shape.Samples (sideN (exponent (f .width))) (f .width * f .height) (isWide (f .maxval)))))
 
--- Document 01's number for each case: what was refused keeps its number, and samples are asked for 14.
+-- Document 01's number for each case of a shape, and the values of one that passed.
+abbrev pub shapeNumber : Shape → ℕ
+shapeNumber (Shape.Refused k) = k
+shapeNumber (Shape.Samples n count wide) = 0
+
+abbrev pub shapeN : Shape → ℕ
+shapeN (Shape.Refused k) = 0
+shapeN (Shape.Samples n count wide) = n
+
+abbrev pub shapeCount : Shape → ℕ
+shapeCount (Shape.Refused k) = 0
+shapeCount (Shape.Samples n count wide) = count
+
+abbrev pub shapeWide : Shape → Bool
+shapeWide (Shape.Refused k) = false
+shapeWide (Shape.Samples n count wide) = wide
+
+abbrev isPassed : Shape → Bool
+isPassed (Shape.Refused k) = false
+isPassed (Shape.Samples n count wide) = true
+
+-- What was refused keeps its number, and samples are asked for 14.
 unfoldable pub judgedFrom : Fields → List ℕ → Shape → Parsed Fields
 unfolding demand anyAbove samplesOf
-judgedFrom f raster (Shape.Refused k) = refused k
-judgedFrom f raster (Shape.Samples n count wide) = demand 14 (not (anyAbove (f .maxval) (samplesOf wide count raster))) (got f raster)
+judgedFrom f rest (Shape.Refused k) = refused k
+judgedFrom f rest (Shape.Samples n count wide) = demand 14 (not (anyAbove (f .maxval) (samplesOf wide count rest))) (got f rest)
 
 -- The causes 11 to 14 are those of the shape, then 14.
-module _ (f : Fields) (raster : List ℕ) where
-  shape-demanded : (k : ℕ) (t : Bool) (s : Shape) {p : Parsed Fields} → p ≡ judgedFrom f raster s → demand k t p ≡ judgedFrom f raster (demandShape k t s)
+module _ (f : Fields) (rest : List ℕ) where
+  shape-demanded : (k : ℕ) (t : Bool) (s : Shape) {p : Parsed Fields} → p ≡ judgedFrom f rest s → demand k t p ≡ judgedFrom f rest (demandShape k t s)
   unfolding demand demandShape judgedFrom
   shape-demanded k true s e = e
   shape-demanded k false s e = refl
 
-  pub judged-by-shape : judged f raster ≡ judgedFrom f raster (shaped f (length raster))
+  pub judged-by-shape : judged f rest ≡ judgedFrom f rest (shaped f (length rest))
   unfolding judged shaped judgedFrom samples
-  judged-by-shape = shape-demanded 11 (square f) _ (shape-demanded 12 (not (outside f)) _ (shape-demanded 13 (filled f (length raster)) _ refl))
+  judged-by-shape = shape-demanded 11 (square f) _ (shape-demanded 12 (not (outside f)) _ (shape-demanded 13 (filled f (length rest)) _ refl))
 
 -- The causes in their order: each applies where those before it do not.
 module _ (f : Fields) (size : ℕ) where
@@ -76,13 +97,25 @@ module _ (f : Fields) (size : ℕ) where
         unfolding shaped filled
         size-right e = rw (past-11, within, not-false (eqb size need) e, power) refl
 
+-- Width and height are not one power of two from 1 to 256.
+pub not-square : (f : Fields) (size : ℕ) → ((n : ℕ) → n ≤ 8 → f .width ≡ 2 ^ n → f .height ≡ 2 ^ n → ⊥) → Shape.Refused 11 ≡ shaped f size
+unfolding shaped square
+not-square f size none = pick (square f) refl
+  where
+    pick : (t : Bool) → square f ≡ t → Shape.Refused 11 ≡ shaped f size
+    pick false e = rw e refl
+    pick true e =
+        let (equal, found) = and-both (eqb (f .width) (f .height)) (eqb (sideNumber (exponent (f .width))) 0) e in
+        let (power, small) = exponent-power (f .width) (eqb-true _ 0 found) in
+        absurd (none (sideN (exponent (f .width))) small (sym power) (sym (eqb-true (f .width) (f .height) equal) ∙ sym power))
+
 -- Maxval is within 1 to 65,535, where it is not outside.
 pub not-outside : (f : Fields) → 1 ≤ f .maxval → f .maxval ≤ 65535 → outside f ≡ false
 unfolding outside
 not-outside f low high = rw (le-ltb (f .maxval) 1 low, le-ltb 65535 (f .maxval) high) refl
 
 -- What passes 11 to 13.
-pub record Shapely (f : Fields) (size n count : ℕ) (wide : Bool) : Type 0 where
+pub record ShapeFacts (f : Fields) (size n count : ℕ) (wide : Bool) : Type 0 where
   pub side : n ≤ 8
   pub n-is : n ≡ sideN (exponent (f .width))
   pub width-is : f .width ≡ 2 ^ n
@@ -94,27 +127,6 @@ pub record Shapely (f : Fields) (size n count : ℕ) (wide : Bool) : Type 0 wher
   pub high : f .maxval ≤ 65535
   pub wide-is : wide ≡ isWide (f .maxval)
   pub full : size ≡ sampleBytes wide * count
-
--- The values of a shape.
-abbrev passedShape : Shape → Bool
-passedShape (Shape.Refused k) = false
-passedShape (Shape.Samples n count wide) = true
-
-abbrev shapeNumber : Shape → ℕ
-shapeNumber (Shape.Refused k) = k
-shapeNumber (Shape.Samples n count wide) = 0
-
-abbrev shapeN : Shape → ℕ
-shapeN (Shape.Refused k) = 0
-shapeN (Shape.Samples n count wide) = n
-
-abbrev shapeCount : Shape → ℕ
-shapeCount (Shape.Refused k) = 0
-shapeCount (Shape.Samples n count wide) = count
-
-abbrev shapeWide : Shape → Bool
-shapeWide (Shape.Refused k) = false
-shapeWide (Shape.Samples n count wide) = wide
 
 -- A refusal is one of 11 to 13.
 pub refused-11-to-13 : (f : Fields) (size : ℕ) {k : ℕ} → shaped f size ≡ Shape.Refused k → (11 ≤ k) × (k ≤ 13)
@@ -128,17 +140,17 @@ refused-11-to-13 f size {k} e = pick (square f) (not (outside f)) (filled f size
     pick false u v e = (omega (arith, ap shapeNumber e), omega (arith, ap shapeNumber e))
     pick true false v e = (omega (arith, ap shapeNumber e), omega (arith, ap shapeNumber e))
     pick true true false e = (omega (arith, ap shapeNumber e), omega (arith, ap shapeNumber e))
-    pick true true true e = absurd (false≢true (sym (ap passedShape e)))
+    pick true true true e = absurd (false≢true (sym (ap isPassed e)))
 
 module _ {n count : ℕ} {wide : Bool} where
   demand-passed : (k : ℕ) (t : Bool) (s : Shape) → demandShape k t s ≡ Shape.Samples n count wide → (t ≡ true) × (s ≡ Shape.Samples n count wide)
   unfolding demandShape
   demand-passed k true s e = (refl, e)
-  demand-passed k false s e = absurd (false≢true (ap passedShape e))
+  demand-passed k false s e = absurd (false≢true (ap isPassed e))
 
-  pub shapely : (f : Fields) (size : ℕ) → shaped f size ≡ Shape.Samples n count wide → Shapely f size n count wide
+  pub shape-facts : (f : Fields) (size : ℕ) → shaped f size ≡ Shape.Samples n count wide → ShapeFacts f size n count wide
   unfolding shaped square outside filled
-  shapely f size e =
+  shape-facts f size e =
       let (s, e1) = demand-passed 11 (square f) _ e in
       let (r, e2) = demand-passed 12 (not (outside f)) _ e1 in
       let (full, e3) = demand-passed 13 (filled f size) _ e2 in

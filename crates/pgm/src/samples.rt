@@ -3,7 +3,7 @@ ghost use mathlib.Core.Path.{_≡_};
 ghost use Prim.Native.Nat.{_+_, _*_, _≤_};
 ghost use lib.ListN.{length};
 ghost use Rattle.sequences.specs.Over.{over};
-ghost use Rattle.pgm.specs.Samples.{sampleBytes, sampleAt, samplesOf, mostOf, anyAbove};
+ghost use Rattle.pgm.specs.Samples.{sampleBytes, sampleAt, samplesOf, greatestOf, anyAbove};
 
 // The sample i.
 fn sample(bytes: &[u8], wide: bool, i: usize) -> u16
@@ -19,8 +19,8 @@ fn sample(bytes: &[u8], wide: bool, i: usize) -> u16
 }
 
 // The greatest sample of a width.
-fn most(wide: bool) -> u16
-    ensures { λ r. ⌜ r ≡ mostOf wide ⌝ }
+fn greatest(wide: bool) -> u16
+    ensures { λ r. ⌜ r ≡ greatestOf wide ⌝ }
 {
     if wide {
         return 65535;
@@ -28,13 +28,13 @@ fn most(wide: bool) -> u16
     255
 }
 
-// Whether one of the first `count` samples is above maxval. None is above the greatest of its width. All others are looked at, with
-// no way out of the loop, so that the compiler can take several at a time.
+// Whether one of the first `count` samples is above maxval. Where maxval is the greatest of the width none is. Else all are looked
+// at, with no way out of the loop, so that the compiler can take several at a time.
 pub(crate) fn any_above(bytes: &[u8], wide: bool, count: usize, maxval: u16) -> bool
     requires { ⌜ sampleBytes wide * count ≤ length (now bytes) ⌝ }
     ensures { λ r. ⌜ r ≡ anyAbove maxval (samplesOf wide count (now (bytes .entry))) ⌝ }
 {
-    if maxval == most(wide) {
+    if maxval == greatest(wide) {
         return false;
     }
     let mut found = false;

@@ -1,13 +1,20 @@
 -- Laws for callers: what the promise of `print` says of the text at exit.
 use mathlib.Core.Path.{_≡_, sym, ap, ap₂, _∙_}
+use mathlib.Core.Bool.{Bool, true, false}
+use mathlib.Core.Logic.{_↔_}
 use mathlib.Core.List.{List}
-use Prim.Native.Nat.{ℕ, _≤_, _<_}
+use Prim.Native.Nat.{ℕ, zero, suc, _≤_, _<_}
+use native.Mathlib.Decide.{decLt}
 use native.Mathlib.Omega.{arith}
+use lib.Dec.{ltb}
 use lib.ListN.{length, take, drop, length-append}
+use Rattle.sequences.specs.Cases.{when, first-some, first-none}
 use Rattle.sequences.specs.Over.{over, take-over}
 use Rattle.answers.specs.declared.Written.{Written}
-use Rattle.printing.specs.Printed.{inputNumber, pictureText, wholeText, textRoom, refusedLine, printed, Printing}
-use Rattle.printing.specs.Printable.{accepted-text, refusal-text, all-printed}
+use Rattle.pgm.specs.Picture.{scan}
+use Rattle.pgm.specs.Callers.{number-low}
+use Rattle.printing.specs.Printed.{inputLimit, inputNumber, pictureText, wholeText, textNeed, textRoom, refusedLine, printNumber, printed, Printing}
+use Rattle.printing.specs.Printable.{too-long, by-picture, accepted-text, refusal-text, all-printed}
 
 module _ {bytes text bytes′ text′ : List ℕ} {w : Written} (p : Printing bytes text bytes′ text′ w) where
   -- The answer says how many bytes were written, and they are in the list.
@@ -18,6 +25,25 @@ module _ {bytes text bytes′ text′ : List ℕ} {w : Written} (p : Printing by
 
   pub text-written : take (w .count) text′ ≡ printed bytes (length text)
   text-written = ap₂ take (p .count-is) (p .in-text) ∙ take-over (printed bytes (length text)) text
+
+  -- "15 begins above 16,384" (document 02, i): there and nowhere else, however long the text is.
+  pub fifteen-exactly : w .number ≡ 15 ↔ inputLimit < length bytes
+  unfolding printNumber when
+  fifteen-exactly = (λ e. only e (decLt inputLimit (length bytes)), λ h. p .number-is ∙ first-some (inputNumber bytes) _ (omega (arith, too-long bytes h)) ∙ too-long bytes h)
+    where
+      last : (t : Bool) → when t 8 ≤ 8
+      last true = omega arith
+      last false = omega arith
+
+      other : (k : ℕ) → inputNumber bytes ≡ k → k ≤ 14 → printNumber bytes (length text) ≤ 14
+      other zero e l = omega (arith, first-none (inputNumber bytes) (when (ltb (length text) (textNeed bytes)) 8) e, last (ltb (length text) (textNeed bytes)))
+      other (suc k) e l = omega (arith, first-some (inputNumber bytes) (when (ltb (length text) (textNeed bytes)) 8) (omega (arith, e)), e)
+
+      only : w .number ≡ 15 → Dec (inputLimit < length bytes) → inputLimit < length bytes
+      only e (yes h) = h
+      only e (no h) =
+          let few : inputNumber bytes ≡ scan bytes .number = by-picture bytes (omega arith) in
+          absurd (omega (arith, e, p .number-is, other (scan bytes .number) few (number-low bytes)))
 
   -- A list of that length takes the whole text of any bytes.
   module _ (large : textRoom ≤ length text) where
@@ -33,3 +59,7 @@ module _ {bytes text bytes′ text′ : List ℕ} {w : Written} (p : Printing by
 
     pub line-of-refusal : 0 < w .number → take (w .count) text′ ≡ refusedLine (w .number)
     line-of-refusal h = whole-text-written ∙ refusal-text bytes h (sym number-of-input)
+
+    -- "Both programs now take 16,384 bytes" (document 02, i): a picture within them is not refused.
+    pub picture-taken : length bytes ≤ inputLimit → scan bytes .number ≡ 0 → w .number ≡ 0
+    picture-taken h z = number-of-input ∙ by-picture bytes h ∙ z

@@ -15,10 +15,8 @@ use Rattle.quadtree.specs.Raster.{inCodeOrder}
 use Rattle.decimals.specs.Decimal.{decimal-two}
 use Rattle.answers.specs.Put.{Put}
 use Rattle.answers.specs.declared.Written.{Written}
-use Rattle.headers.specs.FileLaws.{raster-short}
-use Rattle.pgm.specs.Samples.{isWide, sampleBytes, bytes-at-least}
 use Rattle.pgm.specs.Picture.{scan}
-use Rattle.pgm.specs.Callers.{zero-accepted, refused-number}
+use Rattle.pgm.specs.Callers.{refused-number, longer-than-samples}
 use Rattle.drawing.specs.Outlines.{image-text-fits}
 use Rattle.printing.specs.Printed.{refusedLine, inputLimit, inputNumber, pictureText, textFor, wholeText, needFor, textNeed, textRoom, printNumber, ifRoom, printed, Printing, Refusing}
 
@@ -165,16 +163,10 @@ module _ (bytes : List ℕ) (e : inputNumber bytes ≡ 0) where
 pub side-at-most-64 : (bytes : List ℕ) → length bytes ≤ inputLimit → scan bytes .number ≡ 0 → scan bytes .n ≤ 6
 side-at-most-64 bytes short z = pick (decLt 6 (scan bytes .n))
   where
-    -- The header and the samples, of at least one byte each.
-    long : 4 ^ scan bytes .n < length bytes
-    long =
-        let a = zero-accepted bytes z in
-        omega (arith, raster-short bytes (a .rest) _ (a .file), a .full, bytes-at-least (isWide (scan bytes .maxval)) (4 ^ scan bytes .n))
-
     pick : Dec (6 < scan bytes .n) → scan bytes .n ≤ 6
     pick (yes h) =
         let m : 4 ^ 7 ≤ 4 ^ scan bytes .n = pow4-mono {i = 7} {j = scan bytes .n} (omega arith) in
-        absurd (omega (arith, m, long))
+        absurd (omega (arith, m, longer-than-samples bytes z))
     pick (no h) = omega arith
 
 -- The need of 26 times 4^n, or of the line of a refusal, suffices; and it is never more than that many bytes.

@@ -1,4 +1,4 @@
--- The part that is printed is what was read, and a list of 106,496 bytes takes the whole text of any bytes.
+-- The part that is printed is what was read, and a list of `textRoom` bytes takes the whole text of any bytes.
 use native.Mathlib.Omega.{arith}
 use lib.ListN.{length-take}
 use borrow.Author.Needs.{needs}

@@ -4,7 +4,7 @@ use Prim.Native.Nat.{_*_, _≤_}
 use native.Mathlib.Omega.{arith}
 use lib.ListN.{length}
 use Rattle.pgm.specs.Samples.{sampleBytes}
-use Rattle.pgm.specs.Shaped.{shaped, shapely}
+use Rattle.pgm.specs.Shaped.{shaped, shape-facts}
 use Rattle.pgm.specs.Judging.{shape-answered, above-answered, short-judged, stored-judged}
 use Rattle.pgm.specs.declared.shape.Shape.{Shape}
 use borrow.Author.Tests.{ltb-true, ltb-false}
@@ -22,7 +22,7 @@ known c = sym (c .before .before .before .shape-of .ensures) ∙ c .before .n .g
 room : (c : tie.After-known-told2)
     → let a = c .before .before .before .before .before .before .args in let v = c .before .n .given .0 in
     sampleBytes (v .1 .1 .0) * v .1 .0 ≤ length (a .bytes .now)
-room c = omega (arith, shapely _ _ (known c) .full)
+room c = omega (arith, shape-facts _ _ (known c) .full)
 
 shape-of-requires : tie.Need-shape-of-requires
 shape-of-requires c κs = search needs
@@ -37,7 +37,7 @@ enum-known-n : tie.Need-enum-known-n
 enum-known-n c = search needs
 
 cast-any-above : tie.Need-cast-any-above
-cast-any-above c = omega (arith, shapely _ _ (known c) .high)
+cast-any-above c = omega (arith, shape-facts _ _ (known c) .high)
 
 any-above-requires : tie.Need-any-above-requires
 any-above-requires c κs = room c
@@ -64,7 +64,7 @@ store-requires : tie.Need-store-requires
 store-requires c κs = (room (c .before .before .before .before), ltb-false _ _ (c .before .if2 .left))
 
 cast-written : tie.Need-cast-written
-cast-written c = omega (arith, shapely _ _ (known (c .before .before .before .before .before .before .before)) .few)
+cast-written c = omega (arith, shape-facts _ _ (known (c .before .before .before .before .before .before .before)) .few)
 
 returns-3 : tie.Need-returns-3
 returns-3 c =

@@ -2,7 +2,7 @@
 use mathlib.Core.Path.{_∙_}
 use Prim.Native.Nat.{_-_}
 use native.Mathlib.Omega.{arith}
-use Rattle.pgm.proofs.Sampling.{room-of-each, Looked, looked-at-most, looked-none, looked-more, looked-all}
+use Rattle.pgm.proofs.Sampling.{room-of-each, Looked, looked-at-greatest, looked-none, looked-more, looked-all}
 use borrow.Author.Needs.{needs}
 use Rattle.pgm.proofs.samples.any_above.Statement.{statement}
 use Rattle.pgm.proofs.samples.any_above.Tie as tie
@@ -13,12 +13,12 @@ Inv-loop bytes wide count maxval found₀ i₀ found i = Looked wide count bytes
 abbrev μ-loop : tie.MeasureT-loop
 μ-loop bytes wide count maxval found₀ i₀ found i = count - i
 
-most-requires : tie.Need-most-requires Inv-loop μ-loop
-most-requires c κs = search needs
+greatest-requires : tie.Need-greatest-requires Inv-loop μ-loop
+greatest-requires c κs = search needs
 
 returns : tie.Need-returns Inv-loop μ-loop
 returns c =
-    looked-at-most _ _ _ _ (c .if1 .taken ∙ c .before .most .ensures) (λ k. omega (arith, c .before .before .shared-slice-known .given k))
+    looked-at-greatest _ _ _ _ (c .if1 .taken ∙ c .before .greatest .ensures) (λ k. omega (arith, c .before .before .shared-slice-known .given k))
 
 loop-holds : tie.Need-loop-holds Inv-loop μ-loop
 loop-holds c = looked-none _ _ _ _
@@ -39,4 +39,4 @@ returns-2 : tie.Need-returns-2 Inv-loop μ-loop
 returns-2 c = looked-all _ _ _ _ _ _ (c .loop-test .left) (c .before .loop .inv)
 
 pub any-above-spec : {M : Type 1} → statement M
-any-above-spec = tie.close (tie.spec Inv-loop μ-loop most-requires returns loop-holds sample-requires add-i loop-less loop-again returns-2)
+any-above-spec = tie.close (tie.spec Inv-loop μ-loop greatest-requires returns loop-holds sample-requires add-i loop-less loop-again returns-2)

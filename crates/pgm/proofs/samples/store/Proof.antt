@@ -19,7 +19,7 @@ sample-requires : tie.Need-sample-requires Inv-loop μ-loop
 sample-requires c κs = room-of-each _ _ _ _ (c .before .before .before .before .pre .0) (c .loop-test .taken)
 
 mul-raster : tie.Need-mul-raster Inv-loop μ-loop
-mul-raster c = search needs
+mul-raster c = omega (arith, c .before .loop-test .taken, c .before .before .before .before .before .pre .1, c .before .before .before .before .before .good)
 
 slice-write-raster : tie.Need-slice-write-raster Inv-loop μ-loop
 slice-write-raster c = omega (arith, c .before .loop-test .taken, c .before .before .loop .inv .long, c .before .before .before .before .before .pre .1)
