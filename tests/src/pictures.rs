@@ -1,9 +1,24 @@
-//! Pictures to try: rasters as the bytes of a binary PGM.
+//! Pictures to try: rasters as the bytes of a binary PGM; and the reader held to the model on them.
+
+use crate::calls::{agrees, PictureOut};
+use crate::compare::Shown;
+use crate::model::pgm::{read, read_into, Read};
+use crate::random::Random;
+
+/// A header and what follows it.
+pub fn picture(header: &str, raster: &[u8]) -> Vec<u8> {
+    [header.as_bytes(), raster].concat()
+}
 
 /// A picture of side 2^n.
 pub fn pgm(n: u32, maxval: u32, raster: &[u16]) -> Vec<u8> {
     let side = 1 << n;
     [format!("P5\n{side} {side}\n{maxval}\n").into_bytes(), sample_bytes(maxval, raster)].concat()
+}
+
+/// Random samples up to maxval.
+pub fn samples_up_to(random: &mut Random, maxval: u32, count: usize) -> Vec<u16> {
+    (0..count).map(|_| random.below(maxval as usize + 1) as u16).collect()
 }
 
 /// Colours as a file has them: in one byte each for a maxval up to 255, else in two, the most significant first.
@@ -18,6 +33,28 @@ pub fn sample_bytes(maxval: u32, colours: &[u16]) -> Vec<u8> {
 pub fn of_both_widths(n: u32, raster: &[u16]) -> [Vec<u8>; 2] {
     let low: Vec<u16> = raster.iter().map(|colour| colour & 0xFF).collect();
     [pgm(n, 255, &low), pgm(n, 65_535, raster)]
+}
+
+/// Holds the reader to the model on these bytes with a raster of this length, and gives the number.
+pub fn lent(random: &mut Random, bytes: &[u8], length: usize) -> u32 {
+    let expected = read_into(bytes, length);
+    let out = PictureOut::call(random, bytes, length);
+    agrees(format_args!("raster of {length}, {}", Shown(bytes)), out.difference(&expected));
+    expected.number
+}
+
+/// The same with a raster as long as needed, a longer one, one that is an entry too short and an empty one. A picture that is refused
+/// whatever the raster gets one with more room than it has bytes for, and an empty one. Gives the number that a long raster brings.
+pub fn judged(random: &mut Random, bytes: &[u8]) -> u32 {
+    let Read { number, samples, .. } = read(bytes);
+    let lengths = match number {
+        0 => vec![samples.len(), samples.len() + 5, samples.len() - 1, 0],
+        _ => vec![bytes.len(), 0],
+    };
+    for length in lengths {
+        lent(random, bytes, length);
+    }
+    number
 }
 
 #[cfg(test)]

@@ -6,7 +6,7 @@ use std::io::Write;
 use std::process::{Command, Stdio};
 use tests::cases::Cases;
 use tests::model::lines;
-use tests::pictures::{of_both_widths, pgm};
+use tests::pictures::{of_both_widths, pgm, picture};
 use tests::programs::{repository, run};
 use tests::random::Random;
 use tests::rasters;
@@ -27,10 +27,6 @@ fn printed(input: &[u8]) -> String {
     writer.join().expect("the input is handed over");
     assert!(output.status.success(), "the program ends well");
     String::from_utf8(output.stdout).expect("the text is ASCII")
-}
-
-fn picture(header: &str, raster: &[u8]) -> Vec<u8> {
-    [header.as_bytes(), raster].concat()
 }
 
 /// Document 01's dials 1 to 5.

@@ -6,11 +6,13 @@ use tests::cases::Cases;
 use tests::compare::Shown;
 use tests::model::blocks::{pixel, Blocks};
 use tests::model::pgm::Read;
+use tests::pictures::pgm;
 use tests::random::Random;
 
 /// The way of a picture of side 2^n of which no two pixels have the same colour. Each function takes what the one before it wrote.
-fn goes_its_way(random: &mut Random, n: u32, maxval: u32, bytes: &[u8], colours: &[u16]) {
+fn goes_its_way(random: &mut Random, n: u32, maxval: u32, colours: &[u16]) {
     let whole = colours.len();
+    let bytes = &pgm(n, maxval, colours)[..];
     let mut read = PictureOut::call(random, bytes, whole);
     let picture = Read { number: 0, n, maxval, samples: colours.to_vec() };
     agrees(format_args!("raster of {}", Shown(bytes)), read.difference(&picture));
@@ -32,11 +34,6 @@ fn goes_its_way(random: &mut Random, n: u32, maxval: u32, bytes: &[u8], colours:
     agrees(format_args!("raster again of {}", Shown(bytes)), back.difference(colours));
 }
 
-/// The two bytes of a colour, the most significant first.
-fn two_bytes(colour: u16) -> [u8; 2] {
-    [(colour / 256) as u8, (colour % 256) as u8]
-}
-
 /// A picture of 256 by 256 that has every colour once, in several orders.
 #[test]
 fn every_colour_in_one_picture() {
@@ -55,8 +52,7 @@ fn every_colour_in_one_picture() {
         orders.push(shuffled);
     }
     for colours in orders {
-        let bytes = [b"P5\n256 256\n65535\n".to_vec(), colours.iter().copied().flat_map(two_bytes).collect()].concat();
-        goes_its_way(&mut random, 8, 65_535, &bytes, &colours);
+        goes_its_way(&mut random, 8, 65_535, &colours);
         cases.ran();
     }
     cases.end();
@@ -68,13 +64,11 @@ fn each_colour_alone() {
     let mut cases = Cases::of("each colour alone");
     let mut random = Random::of("each colour alone");
     for colour in 0..=u16::MAX {
-        let bytes = [&b"P5 1 1 65535 "[..], &two_bytes(colour)].concat();
-        goes_its_way(&mut random, 0, 65_535, &bytes, &[colour]);
+        goes_its_way(&mut random, 0, 65_535, &[colour]);
         cases.ran();
     }
-    for colour in 0..=u8::MAX {
-        let bytes = [&b"P5 1 1 255 "[..], &[colour]].concat();
-        goes_its_way(&mut random, 0, 255, &bytes, &[u16::from(colour)]);
+    for colour in 0..=255 {
+        goes_its_way(&mut random, 0, 255, &[colour]);
         cases.ran();
     }
     cases.end();
@@ -85,14 +79,9 @@ fn each_colour_alone() {
 fn colours_of_one_byte() {
     let mut cases = Cases::of("colours of one byte");
     let mut random = Random::of("colours of one byte");
-    let rising: Vec<u8> = (0..=u8::MAX).collect();
-    let falling: Vec<u8> = (0..=u8::MAX).rev().collect();
-    for samples in [rising, falling] {
-        let colours: Vec<u16> = samples.iter().map(|&sample| u16::from(sample)).collect();
-        let one = [b"P5\n16 16\n255\n", &samples[..]].concat();
-        goes_its_way(&mut random, 4, 255, &one, &colours);
-        let two = [b"P5\n16 16\n256\n".to_vec(), colours.iter().copied().flat_map(two_bytes).collect()].concat();
-        goes_its_way(&mut random, 4, 256, &two, &colours);
+    for maxval in [255, 256] {
+        goes_its_way(&mut random, 4, maxval, &(0..=255).collect::<Vec<u16>>());
+        goes_its_way(&mut random, 4, maxval, &(0..=255).rev().collect::<Vec<u16>>());
         cases.ran();
     }
     cases.end();

@@ -1,23 +1,21 @@
 -- Accepted pictures: what number 0 says of a file, and the other way round; and what a refusal says.
 use mathlib.Core.Path.{_≡_, refl, sym, ap, ap₂, _∙_, subst}
-use mathlib.Core.Bool.{Bool, true, false, not}
-use mathlib.Core.Logic.{_⊎_, inl, inr}
+use mathlib.Core.Bool.{Bool, true, false}
+use mathlib.Core.Logic.{_⊎_, inl, inr, _↔_, ⊎-elim}
 use mathlib.Core.List.{List}
 use Prim.Native.Nat.{ℕ, _*_, _^_, _≤_, _<_}
+use native.Mathlib.Decide.{ℕ-discrete}
 use native.Mathlib.Omega.{arith}
-use lib.Dec.{eqb}
 use lib.ListN.{length, getD}
-use borrow.Author.Tests.{eq-eqb}
-use Rattle.sequences.specs.Powers.{square-of-side}
 use Rattle.headers.specs.Parser.{Parsed, refused, got, next}
 use Rattle.headers.specs.Header.{Fields, header}
 use Rattle.headers.specs.File.{File}
 use Rattle.headers.specs.Layout.{next-on}
-use Rattle.headers.specs.FileLaws.{header-is-file, file-is-header, header-10}
-use Rattle.pgm.specs.Exponent.{exponent-of-power}
-use Rattle.pgm.specs.Samples.{isWide, sampleBytes, samplesOf, anyAbove, length-samples, each-at-most, none-above}
-use Rattle.pgm.specs.Picture.{judged, picture, nothing, said, scan}
-use Rattle.pgm.specs.Shaped.{shaped, size-right, not-outside, refused-11-to-13}
+use Rattle.headers.specs.FileLaws.{header-is-file, file-is-header, header-10, raster-short}
+use Rattle.pgm.specs.Samples.{isWide, sampleBytes, samplesOf, anyAbove, length-samples, bytes-at-least, each-at-most, none-above}
+use Rattle.pgm.specs.Picture.{judged, picture, Scan, nothing, said, scan}
+use Rattle.pgm.specs.Shaped.{shaped}
+use Rattle.pgm.specs.ShapeLaws.{filled-shape, refused-11-to-13}
 use Rattle.pgm.specs.Scans.{refused-scan, shape-scan, facts, above-scan, held-scan}
 use Rattle.pgm.specs.declared.shape.Shape.{Shape}
 
@@ -48,16 +46,11 @@ pub accepted-scan : (bytes raster : List ℕ) (n maxval : ℕ) → AcceptedPictu
     → scan bytes ≡ record { number = 0; n = n; maxval = maxval; raster = raster }
 accepted-scan bytes raster n maxval a =
     let f : Fields = record { width = 2 ^ n; height = 2 ^ n; maxval = maxval } in
-    let whole : 2 ^ n * 2 ^ n ≡ 4 ^ n = square-of-side n in
-    let size : length (a .rest) ≡ sampleBytes (isWide maxval) * (2 ^ n * 2 ^ n) = a .full ∙ ap (λ (k : ℕ). sampleBytes (isWide maxval) * k) (sym whole) in
-    let test : not (eqb (length (a .rest)) (sampleBytes (isWide maxval) * (2 ^ n * 2 ^ n))) ≡ false = ap not (eq-eqb _ _ size) in
-    let shape = sym (size-right f (length (a .rest)) refl (exponent-of-power n (a .side)) (not-outside f (a .low) (a .high)) test) in
-    let same : samplesOf (isWide maxval) (2 ^ n * 2 ^ n) (a .rest) ≡ raster = ap (λ (k : ℕ). samplesOf (isWide maxval) k (a .rest)) whole ∙ sym (a .samples) in
     let long : length raster ≡ 4 ^ n = ap length (a .samples) ∙ length-samples (isWide maxval) (4 ^ n) (a .rest) in
     let none : anyAbove maxval raster ≡ false = none-above maxval raster (λ i h. a .at-most i (omega (arith, long))) in
     file-scan bytes (a .rest) f (a .file)
-    ∙ held-scan f (a .rest) shape (ap (anyAbove maxval) same ∙ none)
-    ∙ ap (λ (l : List ℕ). record { number = 0; n = n; maxval = maxval; raster = l }) same
+    ∙ held-scan f (a .rest) (filled-shape f (length (a .rest)) refl refl (a .side) (a .low) (a .high) (a .full)) (ap (anyAbove maxval) (sym (a .samples)) ∙ none)
+    ∙ ap (λ (l : List ℕ). record { number = 0; n = n; maxval = maxval; raster = l }) (sym (a .samples))
 
 -- Each list of bytes is an accepted picture or is refused by a cause of the table, 10 to 14.
 pub record Refused (bytes : List ℕ) : Type 0 where
@@ -117,3 +110,50 @@ accepted-or-refused bytes = go (header bytes) refl
     go : (p : Parsed Fields) → header bytes ≡ p → Passed bytes ⊎ Refused bytes
     go (refused k) e = inr (record { number = 10; least = omega arith; most = omega arith; says = bad-scan bytes (e ∙ ap refused (header-10 bytes k e)) })
     go (got f rest) e = by-shape bytes rest f (header-is-file bytes rest f e)
+
+-- What a file holds, by its number.
+module _ (bytes : List ℕ) where
+  -- Number 0 is said of accepted pictures alone.
+  pub zero-accepted : scan bytes .number ≡ 0 → AcceptedPicture bytes (scan bytes .n) (scan bytes .maxval) (scan bytes .raster)
+  unfolding nothing
+  zero-accepted z = ⊎-elim passed refused (accepted-or-refused bytes)
+    where
+      passed : Passed bytes → AcceptedPicture bytes (scan bytes .n) (scan bytes .maxval) (scan bytes .raster)
+      passed p = rw (accepted-scan bytes (p .raster) (p .n) (p .maxval) (p .accepted)) (p .accepted)
+
+      refused : Refused bytes → AcceptedPicture bytes (scan bytes .n) (scan bytes .maxval) (scan bytes .raster)
+      refused r = absurd (omega (arith, z, ap (λ (s : Scan). s .number) (r .says), r .least))
+
+  pub zero-exactly : scan bytes .number ≡ 0 ↔ Passed bytes
+  zero-exactly = (
+    λ z. record { n = scan bytes .n; maxval = scan bytes .maxval; raster = scan bytes .raster; accepted = zero-accepted z },
+    λ p. ap (λ (s : Scan). s .number) (accepted-scan bytes (p .raster) (p .n) (p .maxval) (p .accepted)),
+  )
+
+  -- Any other number is a refusal by one of the causes 10 to 14.
+  pub refused-number : (scan bytes .number ≡ 0 → ⊥) → (10 ≤ scan bytes .number) × (scan bytes .number ≤ 14)
+  unfolding nothing
+  refused-number d = ⊎-elim passed refused (accepted-or-refused bytes)
+    where
+      passed : Passed bytes → (10 ≤ scan bytes .number) × (scan bytes .number ≤ 14)
+      passed p = absurd (d (zero-exactly .1 p))
+
+      refused : Refused bytes → (10 ≤ scan bytes .number) × (scan bytes .number ≤ 14)
+      refused r = rw (r .says) (r .least, r .most)
+
+  pub number-low : scan bytes .number ≤ 14
+  number-low = pick (ℕ-discrete (scan bytes .number) 0)
+    where
+      pick : Dec (scan bytes .number ≡ 0) → scan bytes .number ≤ 14
+      pick (yes z) = omega (arith, z)
+      pick (no d) = refused-number d .1
+
+  -- An accepted picture has 4^n samples.
+  pub raster-is-square : scan bytes .number ≡ 0 → length (scan bytes .raster) ≡ 4 ^ scan bytes .n
+  raster-is-square z = let a = zero-accepted z in ap length (a .samples) ∙ length-samples (isWide (scan bytes .maxval)) (4 ^ scan bytes .n) (a .rest)
+
+  -- Behind a header they take at least a byte each.
+  pub longer-than-samples : scan bytes .number ≡ 0 → 4 ^ scan bytes .n < length bytes
+  longer-than-samples z =
+      let a = zero-accepted z in
+      omega (arith, raster-short bytes (a .rest) _ (a .file), a .full, bytes-at-least (isWide (scan bytes .maxval)) (4 ^ scan bytes .n))

@@ -1,7 +1,7 @@
 -- Laws for callers: what the promise of `read` says of an accepted picture and of a refused one.
 use mathlib.Core.Path.{_≡_, refl, sym, ap, ap₂, _∙_}
 use mathlib.Core.Bool.{Bool, true, false}
-use mathlib.Core.Logic.{_⊎_, inl, inr, _↔_, ⊎-elim}
+use mathlib.Core.Logic.{_⊎_, inl, inr}
 use mathlib.Core.List.{List}
 use Prim.Native.Nat.{ℕ, _+_, _*_, _-_, _^_, _≤_, _<_}
 use native.Mathlib.Decide.{ℕ-discrete, decLt}
@@ -12,59 +12,13 @@ use borrow.Author.Tests.{le-ltb, lt-ltb}
 use Rattle.sequences.specs.Over.{over, take-over, over-beyond, length-over}
 use Rattle.headers.specs.Parser.{bad}
 use Rattle.headers.specs.Header.{header}
-use Rattle.headers.specs.FileLaws.{raster-short, raster-at-end}
-use Rattle.pgm.specs.Samples.{isWide, sampleBytes, sampleAt, length-samples, samples-at, one-byte, two-bytes, bytes-at-least}
+use Rattle.headers.specs.FileLaws.{raster-at-end}
+use Rattle.pgm.specs.Samples.{isWide, sampleBytes, sampleAt, samples-at, one-byte, two-bytes}
 use Rattle.pgm.specs.Picture.{Scan, nothing, scan}
 use Rattle.pgm.specs.Reading.{refusal, answerWith, Answered, Reading, cause-answered, short-answered, stored-answered}
-use Rattle.pgm.specs.Accepted.{AcceptedPicture, Passed, Refused, bad-scan, accepted-scan, accepted-or-refused}
+use Rattle.pgm.specs.Judging.{nothing-answered}
+use Rattle.pgm.specs.Accepted.{AcceptedPicture, bad-scan, accepted-scan, zero-accepted, refused-number, raster-is-square}
 use Rattle.pgm.specs.declared.Picture.{Picture}
-
--- What a file holds, by its number.
-module _ (bytes : List ℕ) where
-  -- Number 0 is said of accepted pictures alone.
-  pub zero-accepted : scan bytes .number ≡ 0 → AcceptedPicture bytes (scan bytes .n) (scan bytes .maxval) (scan bytes .raster)
-  unfolding nothing
-  zero-accepted z = ⊎-elim passed refused (accepted-or-refused bytes)
-    where
-      passed : Passed bytes → AcceptedPicture bytes (scan bytes .n) (scan bytes .maxval) (scan bytes .raster)
-      passed p = rw (accepted-scan bytes (p .raster) (p .n) (p .maxval) (p .accepted)) (p .accepted)
-
-      refused : Refused bytes → AcceptedPicture bytes (scan bytes .n) (scan bytes .maxval) (scan bytes .raster)
-      refused r = absurd (omega (arith, z, ap (λ (s : Scan). s .number) (r .says), r .least))
-
-  pub zero-exactly : scan bytes .number ≡ 0 ↔ Passed bytes
-  zero-exactly = (
-    λ z. record { n = scan bytes .n; maxval = scan bytes .maxval; raster = scan bytes .raster; accepted = zero-accepted z },
-    λ p. ap (λ (s : Scan). s .number) (accepted-scan bytes (p .raster) (p .n) (p .maxval) (p .accepted)),
-  )
-
-  -- Any other number is a refusal by one of the causes 10 to 14.
-  pub refused-number : (scan bytes .number ≡ 0 → ⊥) → (10 ≤ scan bytes .number) × (scan bytes .number ≤ 14)
-  unfolding nothing
-  refused-number d = ⊎-elim passed refused (accepted-or-refused bytes)
-    where
-      passed : Passed bytes → (10 ≤ scan bytes .number) × (scan bytes .number ≤ 14)
-      passed p = absurd (d (zero-exactly .1 p))
-
-      refused : Refused bytes → (10 ≤ scan bytes .number) × (scan bytes .number ≤ 14)
-      refused r = rw (r .says) (r .least, r .most)
-
-  pub number-low : scan bytes .number ≤ 14
-  number-low = pick (ℕ-discrete (scan bytes .number) 0)
-    where
-      pick : Dec (scan bytes .number ≡ 0) → scan bytes .number ≤ 14
-      pick (yes z) = omega (arith, z)
-      pick (no d) = refused-number d .1
-
-  -- An accepted picture has 4^n samples.
-  pub raster-is-square : scan bytes .number ≡ 0 → length (scan bytes .raster) ≡ 4 ^ scan bytes .n
-  raster-is-square z = let a = zero-accepted z in ap length (a .samples) ∙ length-samples (isWide (scan bytes .maxval)) (4 ^ scan bytes .n) (a .rest)
-
-  -- Behind a header they take at least a byte each.
-  pub longer-than-samples : scan bytes .number ≡ 0 → 4 ^ scan bytes .n < length bytes
-  longer-than-samples z =
-      let a = zero-accepted z in
-      omega (arith, raster-short bytes (a .rest) _ (a .file), a .full, bytes-at-least (isWide (scan bytes .maxval)) (4 ^ scan bytes .n))
 
 -- What a caller of `read` knows of its answer and of the raster.
 module _ {bytes lent bytes′ lent′ : List ℕ} {r : Picture} (p : Reading bytes lent bytes′ lent′ r) where
@@ -85,11 +39,7 @@ module _ {bytes lent bytes′ lent′ : List ℕ} {r : Picture} (p : Reading byt
 
   -- A file that holds nothing but a number.
   pub refused-with : {k : ℕ} → 0 < k → scan bytes ≡ nothing k → (r ≡ refusal k) × (lent′ ≡ lent)
-  unfolding nothing
-  refused-with {k} some e =
-      let number = ap (λ (s : Scan). s .number) e in
-      let told = file-refused (λ z. let no : ⊥ = omega (arith, number, z) in no) in
-      (told .0 ∙ ap refusal number, told .1)
+  refused-with some e = let b = nothing-answered lent e some in (same-answer b, same-raster b)
 
   -- "PGM header not as above" (10).
   pub bad-header-read : header bytes ≡ bad → (r ≡ refusal 10) × (lent′ ≡ lent)

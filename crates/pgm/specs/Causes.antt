@@ -1,28 +1,23 @@
 -- Where a caller stands: which number a file gets, cause by cause.
-use mathlib.Core.Path.{_≡_, refl, sym, ap, ap₂, _∙_}
-use mathlib.Core.Bool.{true, not}
-use mathlib.Core.Logic.{_⊎_, inl, inr}
+use mathlib.Core.Path.{_≡_, sym, ap, _∙_}
+use mathlib.Core.Bool.{Bool}
+use mathlib.Core.Logic.{_⊎_}
 use mathlib.Core.List.{List}
 use Prim.Native.Nat.{ℕ, _*_, _^_, _≤_, _<_}
 use native.Mathlib.Omega.{arith}
-use lib.Dec.{ltb}
-use lib.ListN.{length}
-use borrow.Author.Tests.{lt-ltb, eq-eqb, ne-eqb}
-use Rattle.sequences.specs.Cases.{or-right}
-use Rattle.sequences.specs.Powers.{square-of-side}
+use lib.ListN.{length, getD}
 use Rattle.headers.specs.Header.{Fields}
 use Rattle.headers.specs.File.{File}
 use Rattle.headers.specs.FileLaws.{bad-header-exactly}
-use Rattle.pgm.specs.Exponent.{exponent, exponent-of-power}
-use Rattle.pgm.specs.Samples.{isWide, sampleBytes, sampleAt, samplesOf, anyAbove, length-samples, samples-at, some-above, none-above}
-use Rattle.pgm.specs.Picture.{outside, Scan}
-use Rattle.pgm.specs.Shaped.{shaped, not-square, maxval-outside, size-wrong, size-right, not-outside}
+use Rattle.pgm.specs.Samples.{isWide, sampleBytes, sampleAt, samplesOf, length-samples, samples-at, some-above, none-above}
+use Rattle.pgm.specs.Picture.{Scan}
+use Rattle.pgm.specs.Shaped.{shaped}
+use Rattle.pgm.specs.ShapeLaws.{not-square, outside-shape, unfilled-shape, filled-shape}
 use Rattle.pgm.specs.Scans.{shape-scan, above-scan, held-scan}
 use Rattle.pgm.specs.Reading.{refusal, Reading}
 use Rattle.pgm.specs.Accepted.{file-scan}
 use Rattle.pgm.specs.Callers.{refused-with, bad-header-read, raster-too-short}
 use Rattle.pgm.specs.declared.Picture.{Picture}
-use Rattle.pgm.specs.declared.shape.PowerOfTwo.{PowerOfTwo}
 use Rattle.pgm.specs.declared.shape.Shape.{Shape}
 
 -- A refusal: the number with zeros, and the raster as it was.
@@ -41,52 +36,36 @@ eleven {bytes} {rest} {f = f} x p none =
 -- A file whose width and height pass 11, and a call of `read`.
 module _ {bytes rest lent bytes′ lent′ : List ℕ} {f : Fields} {n : ℕ} {r : Picture} (x : File bytes f rest) (width : f .width ≡ 2 ^ n) (height : f .height ≡ 2 ^ n)
     (side : n ≤ 8) (p : Reading bytes lent bytes′ lent′ r) where
-  equal : f .width ≡ f .height
-  equal = width ∙ sym height
-
-  power : exponent (f .width) ≡ PowerOfTwo.Power n
-  power = ap exponent width ∙ exponent-of-power n side
-
-  count-is : f .width * f .height ≡ 4 ^ n
-  count-is = ap₂ (λ (a b : ℕ). a * b) width height ∙ square-of-side n
-
   -- "12 now means a maxval outside 1 to 65,535".
   pub twelve : (f .maxval < 1) ⊎ (65535 < f .maxval) → RefusedWith 12 r lent lent′
-  unfolding outside
-  twelve h = refused-with p (omega arith) (file-scan bytes rest f x ∙ shape-scan f rest (sym (maxval-outside f (length rest) equal power (told h))))
-    where
-      told : (f .maxval < 1) ⊎ (65535 < f .maxval) → outside f ≡ true
-      told (inl l) = rw (lt-ltb (f .maxval) 1 l) refl
-      told (inr u) = or-right (ltb (f .maxval) 1) (ltb 65535 (f .maxval)) (lt-ltb 65535 (f .maxval) u)
+  twelve h = refused-with p (omega arith) (file-scan bytes rest f x ∙ shape-scan f rest (outside-shape f (length rest) width height side h))
 
   module _ (low : 1 ≤ f .maxval) (high : f .maxval ≤ 65535) where
-    need-is : sampleBytes (isWide (f .maxval)) * (f .width * f .height) ≡ sampleBytes (isWide (f .maxval)) * 4 ^ n
-    need-is = ap (λ (k : ℕ). sampleBytes (isWide (f .maxval)) * k) count-is
+    -- Whether a sample is two bytes, and the samples.
+    abbrev pub wide : Bool
+    wide = isWide (f .maxval)
+
+    abbrev values : List ℕ
+    values = samplesOf wide (4 ^ n) rest
 
     -- "13 counts bytes at the sample's width".
-    pub thirteen : (length rest ≡ sampleBytes (isWide (f .maxval)) * 4 ^ n → ⊥) → RefusedWith 13 r lent lent′
-    thirteen d =
-        let test = ap not (ne-eqb (length rest) (sampleBytes (isWide (f .maxval)) * (f .width * f .height)) (λ e. d (e ∙ need-is))) in
-        refused-with p (omega arith) (file-scan bytes rest f x ∙ shape-scan f rest (sym (size-wrong f (length rest) equal power (not-outside f low high) test)))
+    pub thirteen : (length rest ≡ sampleBytes wide * 4 ^ n → ⊥) → RefusedWith 13 r lent lent′
+    thirteen d = refused-with p (omega arith) (file-scan bytes rest f x ∙ shape-scan f rest (unfilled-shape f (length rest) width height side low high d))
 
-    module _ (full : length rest ≡ sampleBytes (isWide (f .maxval)) * 4 ^ n) where
-      shape : shaped f (length rest) ≡ Shape.Samples n (f .width * f .height) (isWide (f .maxval))
-      shape = sym (size-right f (length rest) equal power (not-outside f low high) (ap not (eq-eqb (length rest) (sampleBytes (isWide (f .maxval)) * (f .width * f .height)) (full ∙ sym need-is))))
-
-      same : samplesOf (isWide (f .maxval)) (f .width * f .height) rest ≡ samplesOf (isWide (f .maxval)) (4 ^ n) rest
-      same = ap (λ (k : ℕ). samplesOf (isWide (f .maxval)) k rest) count-is
+    module _ (full : length rest ≡ sampleBytes wide * 4 ^ n) where
+      shape : shaped f (length rest) ≡ Shape.Samples n (4 ^ n) wide
+      shape = filled-shape f (length rest) width height side low high full
 
       -- 14 is a sample above maxval, at its width.
-      pub fourteen : (i : ℕ) → i < 4 ^ n → f .maxval < sampleAt (isWide (f .maxval)) rest i → RefusedWith 14 r lent lent′
+      pub fourteen : (i : ℕ) → i < 4 ^ n → f .maxval < sampleAt wide rest i → RefusedWith 14 r lent lent′
       fourteen i h above =
-          let values : List ℕ = samplesOf (isWide (f .maxval)) (4 ^ n) rest in
-          let found = some-above (f .maxval) values i (omega (arith, length-samples (isWide (f .maxval)) (4 ^ n) rest)) (omega (arith, samples-at (isWide (f .maxval)) (4 ^ n) rest i h)) in
-          refused-with p (omega arith) (file-scan bytes rest f x ∙ above-scan f rest shape (ap (anyAbove (f .maxval)) same ∙ found))
+          let found = some-above (f .maxval) values i (omega (arith, length-samples wide (4 ^ n) rest)) (omega (arith, samples-at wide (4 ^ n) rest i h)) in
+          refused-with p (omega arith) (file-scan bytes rest f x ∙ above-scan f rest shape found)
 
       -- "8 for the raster comes after 14".
-      pub eight : ((i : ℕ) → i < 4 ^ n → sampleAt (isWide (f .maxval)) rest i ≤ f .maxval) → length lent < 4 ^ n → RefusedWith 8 r lent lent′
+      pub eight : ((i : ℕ) → i < 4 ^ n → sampleAt wide rest i ≤ f .maxval) → length lent < 4 ^ n → RefusedWith 8 r lent lent′
       eight each short =
-          let values : List ℕ = samplesOf (isWide (f .maxval)) (4 ^ n) rest in
-          let none = none-above (f .maxval) values (λ i h. let l : i < 4 ^ n = omega (arith, length-samples (isWide (f .maxval)) (4 ^ n) rest) in omega (arith, each i l, samples-at (isWide (f .maxval)) (4 ^ n) rest i l)) in
-          let held = file-scan bytes rest f x ∙ held-scan f rest shape (ap (anyAbove (f .maxval)) same ∙ none) in
+          let low-at : (i : ℕ) → i < length values → getD values i 0 ≤ f .maxval =
+          λ i h. let l : i < 4 ^ n = omega (arith, length-samples wide (4 ^ n) rest) in omega (arith, each i l, samples-at wide (4 ^ n) rest i l) in
+          let held = file-scan bytes rest f x ∙ held-scan f rest shape (none-above (f .maxval) values low-at) in
           raster-too-short p (ap (λ (s : Scan). s .number) held) (omega (arith, ap (λ (s : Scan). 4 ^ s .n) held))

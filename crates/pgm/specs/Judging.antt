@@ -10,7 +10,8 @@ use Rattle.headers.specs.Parser.{Parsed}
 use Rattle.headers.specs.Header.{Fields}
 use Rattle.pgm.specs.Samples.{samplesOf, anyAbove, length-samples}
 use Rattle.pgm.specs.Picture.{judged, Scan, nothing, said}
-use Rattle.pgm.specs.Shaped.{shaped, refused-11-to-13}
+use Rattle.pgm.specs.Shaped.{shaped}
+use Rattle.pgm.specs.ShapeLaws.{refused-11-to-13}
 use Rattle.pgm.specs.Scans.{shape-scan, facts, above-scan, held-scan}
 use Rattle.pgm.specs.Reading.{refusal, answerWith, Answered, cause-answered, short-answered, stored-answered}
 use Rattle.pgm.specs.declared.Picture.{Picture}

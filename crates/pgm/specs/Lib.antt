@@ -3,6 +3,7 @@ pub mod Exponent
 pub mod Samples
 pub mod Picture
 pub mod Shaped
+pub mod ShapeLaws
 pub mod Scans
 pub mod Reading
 pub mod Judging

@@ -5,7 +5,7 @@ use mathlib.Core.List.{List, _∷_}
 use Prim.Native.Nat.{ℕ, _≤_}
 use lib.ListN.{length}
 use Rattle.sequences.specs.Over.{over}
-use Rattle.headers.specs.Parser.{Parsed, refused, got, bad, next}
+use Rattle.headers.specs.Parser.{Parsed, refused, got, next}
 use Rattle.headers.specs.Header.{Fields, headerOver, header}
 use Rattle.headers.specs.File.{File, PlainFile}
 use Rattle.headers.specs.Layout.{next-on}

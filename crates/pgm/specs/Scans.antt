@@ -8,7 +8,8 @@ use Rattle.headers.specs.Parser.{Parsed, refused, got, demand}
 use Rattle.headers.specs.Header.{Fields}
 use Rattle.pgm.specs.Samples.{samplesOf, anyAbove}
 use Rattle.pgm.specs.Picture.{samples, judged, nothing, said}
-use Rattle.pgm.specs.Shaped.{shaped, judgedFrom, judged-by-shape, ShapeFacts, shape-facts}
+use Rattle.pgm.specs.Shaped.{shaped, judgedFrom, judged-by-shape}
+use Rattle.pgm.specs.ShapeLaws.{ShapeFacts, shape-facts}
 use Rattle.pgm.specs.declared.shape.Shape.{Shape}
 
 -- The number of a refusal from 10 to 14.

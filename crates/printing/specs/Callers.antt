@@ -12,7 +12,7 @@ use Rattle.sequences.specs.Cases.{when, first-some, first-none}
 use Rattle.sequences.specs.Over.{over, take-over}
 use Rattle.answers.specs.declared.Written.{Written}
 use Rattle.pgm.specs.Picture.{scan}
-use Rattle.pgm.specs.Callers.{number-low}
+use Rattle.pgm.specs.Accepted.{number-low}
 use Rattle.printing.specs.Printed.{inputLimit, inputNumber, pictureText, wholeText, textNeed, textRoom, refusedLine, printNumber, printed, Printing}
 use Rattle.printing.specs.Printable.{too-long, by-picture, accepted-text, refusal-text, all-printed}
 

@@ -10,7 +10,8 @@ use Rattle.answers.specs.Put.{Put}
 use Rattle.answers.specs.declared.Written.{Written}
 use Rattle.pgm.specs.Picture.{scan}
 use Rattle.pgm.specs.Reading.{Reading}
-use Rattle.pgm.specs.Callers.{number-of-file, n-is, front-is, count-is-square, raster-long-enough, length-unchanged, raster-is-square}
+use Rattle.pgm.specs.Accepted.{raster-is-square}
+use Rattle.pgm.specs.Callers.{number-of-file, n-is, front-is, count-is-square, raster-long-enough, length-unchanged}
 use Rattle.pgm.specs.declared.Picture.{Picture}
 use Rattle.drawing.specs.Outlines.{imageText, image-text-fits}
 use Rattle.drawing.specs.Picturing.{RasterFits, few-pixels}

@@ -16,7 +16,7 @@ use Rattle.decimals.specs.Decimal.{decimal-two}
 use Rattle.answers.specs.Put.{Put}
 use Rattle.answers.specs.declared.Written.{Written}
 use Rattle.pgm.specs.Picture.{scan}
-use Rattle.pgm.specs.Callers.{refused-number, longer-than-samples}
+use Rattle.pgm.specs.Accepted.{refused-number, longer-than-samples}
 use Rattle.drawing.specs.Outlines.{image-text-fits}
 use Rattle.printing.specs.Printed.{refusedLine, inputLimit, inputNumber, pictureText, textFor, wholeText, needFor, textNeed, textRoom, printNumber, ifRoom, printed, Printing, Refusing}
 

@@ -4,7 +4,8 @@ use Prim.Native.Nat.{_*_, _≤_}
 use native.Mathlib.Omega.{arith}
 use lib.ListN.{length}
 use Rattle.pgm.specs.Samples.{sampleBytes}
-use Rattle.pgm.specs.Shaped.{shaped, shape-facts}
+use Rattle.pgm.specs.Shaped.{shaped}
+use Rattle.pgm.specs.ShapeLaws.{shape-facts}
 use Rattle.pgm.specs.Judging.{shape-answered, above-answered, short-judged, stored-judged}
 use Rattle.pgm.specs.declared.shape.Shape.{Shape}
 use borrow.Author.Tests.{ltb-true, ltb-false}

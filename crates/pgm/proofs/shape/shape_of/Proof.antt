@@ -9,7 +9,7 @@ use lib.Dec.{eqb}
 use Rattle.pgm.specs.Exponent.{exponent, width-small}
 use Rattle.pgm.specs.Samples.{isWide}
 use Rattle.pgm.specs.Picture.{outside}
-use Rattle.pgm.specs.Shaped.{width-not-height, width-no-power, maxval-outside, size-wrong, size-right}
+use Rattle.pgm.specs.ShapeLaws.{width-not-height, width-no-power, maxval-outside, size-wrong, size-right}
 use Rattle.pgm.specs.declared.shape.PowerOfTwo.{PowerOfTwo}
 use borrow.Author.Needs.{needs}
 use Rattle.pgm.proofs.shape.shape_of.Statement.{statement}
