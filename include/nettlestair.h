@@ -67,6 +67,17 @@ struct nettlestair_written nettlestair_raster_from_blocks(uint32_t n, const uint
                                                           const uint16_t *colours, size_t colours_len, uint16_t *raster,
                                                           size_t raster_len);
 
+/* The merged list of one block list laid over another, whose every pixel has the larger of the two colours: 0, or 1, 2 to 7 of the
+   first list, 2 to 7 of the second, 8. Each of the three lists written has room for 4^n entries. */
+struct nettlestair_written nettlestair_overlay(uint32_t n, const uint32_t *first_codes, size_t first_codes_len,
+                                               const uint8_t *first_levels, size_t first_levels_len,
+                                               const uint16_t *first_colours, size_t first_colours_len,
+                                               const uint32_t *second_codes, size_t second_codes_len,
+                                               const uint8_t *second_levels, size_t second_levels_len,
+                                               const uint16_t *second_colours, size_t second_colours_len,
+                                               uint32_t *codes, size_t codes_len, uint8_t *levels,
+                                               size_t levels_len, uint16_t *colours, size_t colours_len);
+
 /* The region number of each block, at its place in the labels, and how many regions there are: 0, or 1 to 8. The labels have
    room for one entry a block, the work list for 2 times 4^n; on acceptance that many of its entries are 0. */
 struct nettlestair_numbered nettlestair_number(uint32_t n, const uint32_t *codes, size_t codes_len, const uint8_t *levels,

@@ -95,6 +95,28 @@ extern "C" {
         raster_len: usize,
     ) -> Written;
 
+    fn nettlestair_overlay(
+        n: u32,
+        first_codes: *const u32,
+        first_codes_len: usize,
+        first_levels: *const u8,
+        first_levels_len: usize,
+        first_colours: *const u16,
+        first_colours_len: usize,
+        second_codes: *const u32,
+        second_codes_len: usize,
+        second_levels: *const u8,
+        second_levels_len: usize,
+        second_colours: *const u16,
+        second_colours_len: usize,
+        codes: *mut u32,
+        codes_len: usize,
+        levels: *mut u8,
+        levels_len: usize,
+        colours: *mut u16,
+        colours_len: usize,
+    ) -> Written;
+
     fn nettlestair_number(
         n: u32,
         codes: *const u32,
@@ -212,6 +234,46 @@ pub fn raster_from_blocks(n: u32, codes: &[u32], levels: &[u8], colours: &[u16],
             colours.len(),
             raster.as_mut_ptr(),
             raster.len(),
+        )
+    }
+}
+
+/// The merged list of one block list laid over another, whose every pixel has the larger of the two colours: 0, or 1, 2 to 7 of the
+/// first list, 2 to 7 of the second, 8. Each of the three lists written has room for 4^n entries.
+#[allow(clippy::too_many_arguments)]
+pub fn overlay(
+    n: u32,
+    first_codes: &[u32],
+    first_levels: &[u8],
+    first_colours: &[u16],
+    second_codes: &[u32],
+    second_levels: &[u8],
+    second_colours: &[u16],
+    codes: &mut [u32],
+    levels: &mut [u8],
+    colours: &mut [u16],
+) -> Written {
+    unsafe {
+        nettlestair_overlay(
+            n,
+            first_codes.as_ptr(),
+            first_codes.len(),
+            first_levels.as_ptr(),
+            first_levels.len(),
+            first_colours.as_ptr(),
+            first_colours.len(),
+            second_codes.as_ptr(),
+            second_codes.len(),
+            second_levels.as_ptr(),
+            second_levels.len(),
+            second_colours.as_ptr(),
+            second_colours.len(),
+            codes.as_mut_ptr(),
+            codes.len(),
+            levels.as_mut_ptr(),
+            levels.len(),
+            colours.as_mut_ptr(),
+            colours.len(),
         )
     }
 }

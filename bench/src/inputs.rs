@@ -1,5 +1,6 @@
-//! Pictures of one kind and one n, the answers of both sides on them, and the times.
+//! Pictures of one kind and one n, or two of one n, the answers of both sides on them, and the times.
 
+use crate::nettlestair::Written;
 use crate::pictures::Kind;
 use crate::sides::{Blocks, Lists, Side, LIBRARY, PLAIN};
 use crate::timing::{compare, Times};
@@ -121,5 +122,46 @@ impl Inputs {
         self.time(|side, input| {
             black_box((side.raster_from_blocks)(self.n, input.blocks(), &mut raster));
         })
+    }
+}
+
+/// Two pictures of one n, the first laid over the second.
+pub struct Pair {
+    n: u32,
+    first: Input,
+    second: Input,
+}
+
+impl Pair {
+    pub fn new(kinds: &[Kind; 2], n: u32) -> Pair {
+        Pair { n, first: Input::new(&kinds[0], n, 0), second: Input::new(&kinds[1], n, 1) }
+    }
+
+    /// The answer on fresh lists, and every entry of the lists.
+    fn overlay(&self, side: &Side) -> (Written, impl PartialEq) {
+        let whole = self.first.raster.len();
+        let (mut codes, mut levels, mut colours) = (vec![9; whole], vec![9; whole], vec![9; whole]);
+        let (first, second) = (self.first.blocks(), self.second.blocks());
+        let written = (side.overlay)(self.n, first, second, &mut codes, &mut levels, &mut colours);
+        (written, (codes, levels, colours))
+    }
+
+    /// The blocks of the first picture, of the second and of the merged list.
+    pub fn blocks(&self) -> [usize; 3] {
+        [self.first.codes.len(), self.second.codes.len(), self.overlay(&PLAIN).0.count as usize]
+    }
+
+    pub fn equal(&self) -> bool {
+        self.overlay(&LIBRARY) == self.overlay(&PLAIN)
+    }
+
+    pub fn time(&self) -> Times {
+        let whole = self.first.raster.len();
+        let lists = RefCell::new((vec![0; whole], vec![0; whole], vec![0; whole]));
+        let job = |side: &Side| {
+            let (codes, levels, colours) = &mut *lists.borrow_mut();
+            black_box((side.overlay)(self.n, self.first.blocks(), self.second.blocks(), codes, levels, colours));
+        };
+        compare(|| job(&LIBRARY), || job(&PLAIN))
     }
 }

@@ -10,16 +10,30 @@ pub struct Kind {
     pub raster: fn(u32, u64) -> Vec<u16>,
 }
 
+const NOISE_OF_2: Kind = Kind { name: "noise of 2 colours", raster: |n, seed| noise(n, 2, seed) };
+const NOISE_OF_256: Kind = Kind { name: "noise of 256 colours", raster: |n, seed| noise(n, 256, seed) };
+const ONE_COLOUR: Kind = Kind { name: "one colour", raster: |n, _| vec![7; 1 << (2 * n)] };
+const CLOCK_DIAL: Kind = Kind { name: "clock dial", raster: clock };
+
 pub const KINDS: [Kind; 9] = [
-    Kind { name: "noise of 2 colours", raster: |n, seed| noise(n, 2, seed) },
-    Kind { name: "noise of 256 colours", raster: |n, seed| noise(n, 256, seed) },
+    NOISE_OF_2,
+    NOISE_OF_256,
     Kind { name: "blobs", raster: blobs },
     Kind { name: "rings", raster: rings },
     Kind { name: "checkerboard", raster: |n, _| checkerboard(n) },
     Kind { name: "spiral", raster: |n, _| spiral(n) },
     Kind { name: "comb", raster: |n, _| comb(n) },
-    Kind { name: "one colour", raster: |n, _| vec![7; 1 << (2 * n)] },
-    Kind { name: "clock dial", raster: clock },
+    ONE_COLOUR,
+    CLOCK_DIAL,
+];
+
+/// Pictures that are laid over one another: the name of the two, and their kinds.
+pub const PAIRS: [(&str, [Kind; 2]); 5] = [
+    ("two noises of 2 colours", [NOISE_OF_2, NOISE_OF_2]),
+    ("two noises of 256 colours", [NOISE_OF_256, NOISE_OF_256]),
+    ("one colour over noise of 256", [ONE_COLOUR, NOISE_OF_256]),
+    ("noise of 256 over one colour", [NOISE_OF_256, ONE_COLOUR]),
+    ("two clock dials", [CLOCK_DIAL, CLOCK_DIAL]),
 ];
 
 /// The raster whose pixel (x, y) has the colour `colour(x, y)`.

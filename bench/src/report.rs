@@ -1,7 +1,7 @@
 //! What is timed and how it is told.
 
-use crate::inputs::Inputs;
-use crate::pictures::{self, KINDS};
+use crate::inputs::{Inputs, Pair};
+use crate::pictures::{self, KINDS, PAIRS};
 use crate::plain::spread_code;
 use crate::sides::{Side, LIBRARY, PLAIN};
 use crate::timing::{compare, Times, SAMPLES};
@@ -147,6 +147,26 @@ fn reading() -> bool {
         println!(
             "{name:<28} | {} | {}",
             columns(compare(|| job(&LIBRARY), || job(&PLAIN))),
+            if same { "equal" } else { "DIFFERENT" }
+        );
+        equal &= same;
+    }
+    equal
+}
+
+/// One picture laid over another at n = 8. Says whether all answers were equal.
+pub fn overlay() -> bool {
+    let mut equal = true;
+    println!("\nn = 8, microseconds for one picture over another (plain Rust has two rasters of its own on the stack)");
+    println!("{:<28} {:^23} | {:^28} |", "", "blocks", "overlay");
+    println!("{:<28} {:>7} {:>7} {:>7} | {HEADING} | answers", "", "first", "second", "merged");
+    for (name, kinds) in &PAIRS {
+        let same = SIZES.map(|n| Pair::new(kinds, n)).all(|pair| pair.equal());
+        let largest = Pair::new(kinds, *SIZES.end());
+        let [first, second, merged] = largest.blocks();
+        println!(
+            "{name:<28} {first:>7} {second:>7} {merged:>7} | {} | {}",
+            columns(largest.time()),
             if same { "equal" } else { "DIFFERENT" }
         );
         equal &= same;

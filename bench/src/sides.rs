@@ -37,6 +37,7 @@ pub struct Side {
     pub trace: fn(u32, Blocks, Lent) -> Traced,
     pub blocks_from_raster: fn(u32, &[u16], &mut [u32], &mut [u8], &mut [u16]) -> Written,
     pub raster_from_blocks: fn(u32, Blocks, &mut [u16]) -> Written,
+    pub overlay: fn(u32, Blocks, Blocks, &mut [u32], &mut [u8], &mut [u16]) -> Written,
     pub read_pgm: fn(&[u8], &mut [u16]) -> Picture,
 }
 
@@ -53,6 +54,9 @@ pub const LIBRARY: Side = Side {
     raster_from_blocks: |n, blocks, raster| {
         nettlestair::raster_from_blocks(n, blocks.codes, blocks.levels, blocks.colours, raster)
     },
+    overlay: |n, a, b, codes, levels, colours| {
+        nettlestair::overlay(n, a.codes, a.levels, a.colours, b.codes, b.levels, b.colours, codes, levels, colours)
+    },
     read_pgm: nettlestair::read_pgm,
 };
 
@@ -63,6 +67,7 @@ pub const PLAIN: Side = Side {
     trace: plain::trace,
     blocks_from_raster: plain::blocks_from_raster,
     raster_from_blocks: plain::raster_from_blocks,
+    overlay: plain::overlay,
     read_pgm: plain::read_pgm,
 };
 

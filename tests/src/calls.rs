@@ -14,7 +14,7 @@ const fn refused(number: u32) -> Written {
     Written { number, count: 0 }
 }
 
-/// Raster to blocks, after a call.
+/// A function that writes a block list, after a call.
 pub struct BlocksOut {
     pub written: Written,
     pub codes: Lent<u32>,
@@ -23,16 +23,27 @@ pub struct BlocksOut {
 }
 
 impl BlocksOut {
-    /// Lends lists of the given lengths for codes, levels and colours.
-    pub fn call(random: &mut Random, n: u32, raster: &[u16], lengths: [usize; 3]) -> BlocksOut {
-        let before = raster.to_vec();
+    /// Lends lists of the given lengths for codes, levels and colours to `function`.
+    fn of(
+        random: &mut Random,
+        lengths: [usize; 3],
+        function: impl FnOnce(&mut [u32], &mut [u8], &mut [u16]) -> Written,
+    ) -> BlocksOut {
         let mut codes = Lent::new(random, lengths[0]);
         let mut levels = Lent::new(random, lengths[1]);
         let mut colours = Lent::new(random, lengths[2]);
-        let written =
-            nettlestair::blocks_from_raster(n, black_box(raster), codes.lend(), levels.lend(), colours.lend());
-        unchanged("raster", &before, black_box(raster));
+        let written = function(codes.lend(), levels.lend(), colours.lend());
         BlocksOut { written, codes, levels, colours }
+    }
+
+    /// The blocks written.
+    pub fn blocks(&mut self) -> Blocks {
+        let count = self.written.count as usize;
+        Blocks {
+            codes: self.codes.lend()[..count].to_vec(),
+            levels: self.levels.lend()[..count].to_vec(),
+            colours: self.colours.lend()[..count].to_vec(),
+        }
     }
 
     /// What differs from an acceptance with these blocks: the answer or an entry, also one that should be as it was.
@@ -45,12 +56,43 @@ impl BlocksOut {
         self.differs(refused(number), &Blocks::default())
     }
 
+    /// What differs from what the model answers: blocks, or the number of a refusal.
+    pub fn difference_from_model(&self, expected: &Result<Blocks, u32>) -> Option<String> {
+        match expected {
+            Ok(blocks) => self.difference(blocks),
+            Err(number) => self.difference_from_refusal(*number),
+        }
+    }
+
     fn differs(&self, written: Written, blocks: &Blocks) -> Option<String> {
         answer(written, self.written)
             .or_else(|| self.codes.difference(&blocks.codes).map(|d| format!("codes, {d}")))
             .or_else(|| self.levels.difference(&blocks.levels).map(|d| format!("levels, {d}")))
             .or_else(|| self.colours.difference(&blocks.colours).map(|d| format!("colours, {d}")))
     }
+}
+
+/// Raster to blocks, with lists of the given lengths.
+pub fn blocks_from_raster(random: &mut Random, n: u32, raster: &[u16], lengths: [usize; 3]) -> BlocksOut {
+    let before = raster.to_vec();
+    let out = BlocksOut::of(random, lengths, |codes, levels, colours| {
+        nettlestair::blocks_from_raster(n, black_box(raster), codes, levels, colours)
+    });
+    unchanged("raster", &before, black_box(raster));
+    out
+}
+
+/// One block list laid over another, with lists of the given lengths.
+pub fn overlay(random: &mut Random, n: u32, first: &Blocks, second: &Blocks, lengths: [usize; 3]) -> BlocksOut {
+    handed_in(first, |a| {
+        handed_in(second, |b| {
+            BlocksOut::of(random, lengths, |codes, levels, colours| {
+                nettlestair::overlay(
+                    n, &a.codes, &a.levels, &a.colours, &b.codes, &b.levels, &b.colours, codes, levels, colours,
+                )
+            })
+        })
+    })
 }
 
 /// A function that writes one list, after a call.

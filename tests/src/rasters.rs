@@ -87,6 +87,16 @@ pub fn any(random: &mut Random, n: u32) -> Vec<u16> {
     }
 }
 
+/// A raster parted in two: each pixel keeps its colour in one of them, and has any colour up to it in the other. Laid over one another
+/// they give the raster again, however little of it either shows.
+pub fn parted(random: &mut Random, raster: &[u16]) -> [Vec<u16>; 2] {
+    let mut parts = [raster.to_vec(), raster.to_vec()];
+    for (place, &colour) in raster.iter().enumerate() {
+        parts[random.below(2)][place] = random.below(usize::from(colour) + 1) as u16;
+    }
+    parts
+}
+
 /// Every raster of 2 by 2 pixels in four colours, and every one of 4 by 4 in two, each with its n. Any two of the four differ in the
 /// low byte alone, in the high byte alone or in both. The two differ in the low byte alone where the first pixel has the one, and in
 /// the high byte alone where it has the other, so that each way to part the pixels in two is there with both.

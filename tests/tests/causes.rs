@@ -1,17 +1,18 @@
-//! Causes 1 to 8 of block lists: each alone, each pair that can occur together, and their order.
+//! Causes 1 to 8 of block lists: each alone, each pair that can occur together, and their order, in one list and in two.
 
 use std::collections::BTreeSet;
-use tests::calls::{agrees, number as numbering, raster_from_blocks, trace};
+use tests::calls::{agrees, number as numbering, overlay, raster_from_blocks, trace};
 use tests::cases::Cases;
 use tests::expected::{needs, Model};
 use tests::faults;
 use tests::model::blocks::{conditions, number, paint, quadtree, Blocks};
+use tests::model::overlay::overlay as overlaid;
 use tests::nettlestair::check;
 use tests::random::Random;
 use tests::rasters;
 
-/// Holds the check, blocks to raster, numbering and tracing to one number, with lists that are long enough and with shorter
-/// ones: 8 is looked for after 1 to 7.
+/// Holds the check, blocks to raster, numbering, tracing and the laying of one list over another to one number, with lists that are
+/// long enough and with shorter ones: 8 is looked for after 1 to 7.
 fn judged(what: &str, random: &mut Random, n: u32, blocks: &Blocks, expected: u32) {
     let Blocks { codes, levels, colours } = blocks;
     assert_eq!(check(n, codes, levels, colours), expected, "{what}: check of n = {n}, {blocks}");
@@ -24,6 +25,17 @@ fn judged(what: &str, random: &mut Random, n: u32, blocks: &Blocks, expected: u3
             _ => out.difference_from_refusal(expected),
         };
         agrees(format_args!("{what}: raster of {length} from n = {n}, {blocks}"), difference);
+    }
+    let accepted = list(&[(0, n as u8, 256)]);
+    for (first, second) in [(blocks, &accepted), (&accepted, blocks), (blocks, blocks)] {
+        for lengths in [[need; 3], [need - 1; 3], [0; 3]] {
+            let out = overlay(random, n, first, second, lengths);
+            let difference = match expected {
+                0 => out.difference_from_model(&overlaid(n, first, second, lengths)),
+                _ => out.difference_from_refusal(expected),
+            };
+            agrees(format_args!("{what}: n = {n}, {first} over {second}, lists of {lengths:?}"), difference);
+        }
     }
     let model = Model::of(n, blocks);
     assert_eq!(model.number, expected, "{what}: the model of n = {n}, {blocks}");
@@ -216,11 +228,20 @@ fn each_cause_and_each_pair() {
     cases.end();
 }
 
-/// Cause 2 beside those of a row: one of the three lists, or two, are longer or empty. It is answered after 1 and before all
-/// else.
+/// Cause 2 beside those of a row. It is answered after 1 and before all else.
 fn unlike_lengths(row: &Row, random: &mut Random, cases: &mut Cases) -> Vec<Vec<u32>> {
-    let whole = list(row.blocks);
     let expected = if row.n > 8 { 1 } else { 2 };
+    let variants = of_unlike_lengths(&list(row.blocks));
+    for blocks in &variants {
+        assert_eq!(number(row.n, &blocks.codes, &blocks.levels, &blocks.colours), expected, "{}: the model", row.what);
+        judged(row.what, random, row.n, blocks, expected);
+        cases.ran();
+    }
+    variants.iter().map(|b| conditions(row.n, &b.codes, &b.levels, &b.colours)).collect()
+}
+
+/// A list with one of its three parts, or two, longer or empty.
+fn of_unlike_lengths(whole: &Blocks) -> Vec<Blocks> {
     let mut variants = vec![whole.clone(); 6];
     variants[0].codes.push(0);
     variants[1].levels.push(0);
@@ -241,12 +262,43 @@ fn unlike_lengths(row: &Row, random: &mut Random, cases: &mut Cases) -> Vec<Vec<
         }
         variants.push(variant);
     }
-    for blocks in &variants {
-        assert_eq!(number(row.n, &blocks.codes, &blocks.levels, &blocks.colours), expected, "{}: the model", row.what);
-        judged(row.what, random, row.n, blocks, expected);
-        cases.ran();
+    variants
+}
+
+/// One list over another: of each pair of lists with n = 1 the first one's cause is answered before the second one's, and that before
+/// 8, which one list that is too short suffices for. With n = 9 all of them are 1.
+#[test]
+fn causes_of_two_lists() {
+    let mut cases = Cases::of("causes of two lists");
+    let mut random = Random::of("causes of two lists");
+    let mut lists = Vec::new();
+    for row in ROWS.iter().filter(|row| row.n == 1) {
+        let blocks = list(row.blocks);
+        lists.extend(of_unlike_lengths(&blocks).into_iter().map(|unlike| (2, unlike)));
+        lists.push((row.number, blocks));
     }
-    variants.iter().map(|b| conditions(row.n, &b.codes, &b.levels, &b.colours)).collect()
+    let mut seen = BTreeSet::new();
+    for (a, first) in &lists {
+        for (b, second) in &lists {
+            for (lengths, c) in [([4, 5, 6], 0), ([3, 4, 4], 8), ([4, 3, 4], 8), ([4, 4, 3], 8)] {
+                let number = [*a, *b, c].into_iter().find(|&number| number != 0);
+                let expected = overlaid(1, first, second, lengths);
+                assert_eq!(expected.as_ref().err().copied(), number, "the model: {first} over {second}, {lengths:?}");
+                let out = overlay(&mut random, 1, first, second, lengths);
+                let difference = out.difference_from_model(&expected);
+                agrees(format_args!("{first} over {second}, lists of {lengths:?}"), difference);
+                let out = overlay(&mut random, 9, first, second, lengths);
+                let difference = out.difference_from_refusal(1);
+                agrees(format_args!("n = 9, {first} over {second}, lists of {lengths:?}"), difference);
+                seen.insert((*a, *b, c));
+                cases.ran();
+            }
+        }
+    }
+    let numbers = [0, 2, 3, 4, 5, 6, 7];
+    let pairs = numbers.into_iter().flat_map(|a| numbers.map(|b| (a, b)));
+    assert_eq!(seen, pairs.flat_map(|(a, b)| [(a, b, 0), (a, b, 8)]).collect());
+    cases.end();
 }
 
 #[test]

@@ -3,13 +3,14 @@
 
 use std::collections::BTreeSet;
 use std::time::{Duration, Instant};
-use tests::calls::{self, BlocksOut, Called, Out, PictureOut};
+use tests::calls::{self, Called, Out, PictureOut};
 use tests::cases::Cases;
 use tests::compare::Shown;
 use tests::expected::{needs, Model};
 use tests::faults;
 use tests::lent::Entry;
 use tests::model::blocks::{location_code, number, paint, quadtree, Blocks};
+use tests::model::overlay::overlay as overlaid;
 use tests::model::paths;
 use tests::model::pgm::read_into;
 use tests::nettlestair::{self, Stretch};
@@ -23,11 +24,12 @@ use tests::rasters;
 type Try = fn(random: &mut Random, wrong: u32) -> (u32, Option<String>);
 
 /// Each function with the numbers that it can answer; a location code and the stretch of a cycle have none.
-const FUNCTIONS: [(&str, Try, &[u32]); 10] = [
+const FUNCTIONS: [(&str, Try, &[u32]); 11] = [
     ("fuzzing, codes", code, &[0]),
     ("fuzzing, check", check, &[0, 1, 2, 3, 4, 5, 6, 7]),
     ("fuzzing, raster to blocks", blocks_from_raster, &[0, 1, 8, 9]),
     ("fuzzing, blocks to raster", raster_from_blocks, &[0, 1, 2, 3, 4, 5, 6, 7, 8]),
+    ("fuzzing, one list over another", overlay, &[0, 1, 2, 3, 4, 5, 6, 7, 8]),
     ("fuzzing, numbers", numbering, &[0, 1, 2, 3, 4, 5, 6, 7, 8]),
     ("fuzzing, outlines", tracing, &[0, 1, 2, 3, 4, 5, 6, 7, 8]),
     ("fuzzing, stretches", cycle, &[0]),
@@ -100,19 +102,32 @@ fn length(random: &mut Random, need: usize) -> usize {
     }
 }
 
-/// n and a block list, faulty or not, at times with four siblings whose colours are equal but for one binary digit.
+/// The n of the rasters that are drawn for n, which may be above 8.
+fn drawn(n: u32) -> u32 {
+    if n > 8 {
+        2
+    } else {
+        n
+    }
+}
+
+/// n and a block list, faulty or not.
 fn block_list(random: &mut Random) -> (u32, Blocks) {
     let n = side(random);
-    let drawn = if n > 8 { 2 } else { n };
-    let raster = rasters::any(random, drawn);
-    let mut blocks = quadtree(drawn, &raster);
+    let raster = rasters::any(random, drawn(n));
+    (n, blocks_of(random, n, &raster))
+}
+
+/// The block list of a raster, faulty or not, at times with four siblings whose colours are equal but for one binary digit.
+fn blocks_of(random: &mut Random, n: u32, raster: &[u16]) -> Blocks {
+    let mut blocks = quadtree(drawn(n), raster);
     if random.below(3) == 0 {
         faults::split_unlike(random, &mut blocks);
     }
     for _ in 0..faulty(random) {
         faults::in_blocks(random, &mut blocks);
     }
-    (n, blocks)
+    blocks
 }
 
 /// Coordinates of 1 to 16 digits.
@@ -133,14 +148,13 @@ fn check(random: &mut Random, wrong: u32) -> (u32, Option<String>) {
 
 fn blocks_from_raster(random: &mut Random, wrong: u32) -> (u32, Option<String>) {
     let n = side(random);
-    let drawn = if n > 8 { 2 } else { n };
-    let mut raster = rasters::any(random, drawn);
+    let mut raster = rasters::any(random, drawn(n));
     if random.below(8) == 0 {
         faults::in_list(random, &mut raster, &[0, 1]);
     }
-    let need = 1 << (2 * drawn);
+    let need = 1 << (2 * drawn(n));
     let lengths = [need, need, need].map(|need| length(random, need));
-    let mut out = BlocksOut::call(random, n, &raster, lengths);
+    let mut out = calls::blocks_from_raster(random, n, &raster, lengths);
     out.written.count += wrong;
     let number = match (n > 8, raster.len() != need, lengths.iter().any(|&length| length < need)) {
         (true, _, _) => 1,
@@ -170,6 +184,24 @@ fn raster_from_blocks(random: &mut Random, wrong: u32) -> (u32, Option<String>) 
         _ => out.difference_from_refusal(number),
     };
     (number, difference.map(|d| format!("n = {n}, {blocks}, raster of {length}: {d}")))
+}
+
+/// The lists of two rasters, at times of one that is parted in two.
+fn overlay(random: &mut Random, wrong: u32) -> (u32, Option<String>) {
+    let n = side(random);
+    let raster = rasters::any(random, drawn(n));
+    let rasters = match random.below(3) {
+        0 => rasters::parted(random, &raster),
+        _ => [raster, rasters::any(random, drawn(n))],
+    };
+    let [first, second] = rasters.map(|raster| blocks_of(random, n, &raster));
+    let lengths = [1 << (2 * drawn(n)); 3].map(|need| length(random, need));
+    let expected = overlaid(n, &first, &second, lengths);
+    let mut out = calls::overlay(random, n, &first, &second, lengths);
+    out.written.count += wrong;
+    let difference = out.difference_from_model(&expected);
+    let number = expected.err().unwrap_or(0);
+    (number, difference.map(|d| format!("n = {n}, {first} over {second}, lengths {lengths:?}: {d}")))
 }
 
 fn numbering(random: &mut Random, wrong: u32) -> (u32, Option<String>) {

@@ -1,29 +1,38 @@
 //! What becomes of lent lists: tails stay, lists one too short are refused, a refusal leaves everything.
 
-use tests::calls::{agrees, raster_from_blocks, BlocksOut};
+use tests::calls::{agrees, blocks_from_raster, overlay, raster_from_blocks, BlocksOut};
 use tests::cases::Cases;
 use tests::damage::each_place;
-use tests::model::blocks::quadtree;
+use tests::model::blocks::{quadtree, Blocks};
+use tests::model::overlay::larger;
 use tests::random::Random;
 use tests::rasters;
 
-/// Rasters to blocks: 8 in each of the three lists alone, in two and in all. The need is 4^n whatever the answer would use.
+/// Rasters to blocks and one list over another: 8 in each of the three lists alone, in two and in all. The need is 4^n whatever the
+/// answer would use.
 #[test]
 fn block_lists_too_short() {
     let mut cases = Cases::of("block lists too short");
     let mut random = Random::of("block lists too short");
     for n in 0..=8 {
-        for raster in rasters::of_every_kind(&mut random, n) {
+        let rasters = rasters::of_every_kind(&mut random, n);
+        for (raster, other) in rasters.iter().zip(rasters.iter().cycle().skip(1)) {
+            let (first, second) = (quadtree(n, raster), quadtree(n, other));
             let need = raster.len();
             for short in 1..8 {
                 for missing in [1, need] {
                     let length = |list: u32| if short >> list & 1 == 1 { need - missing } else { need + list as usize };
-                    let out = BlocksOut::call(&mut random, n, &raster, [length(0), length(1), length(2)]);
-                    agrees(
-                        format_args!("n = {n}, lists {short:03b} short by {missing}"),
-                        out.difference_from_refusal(8),
-                    );
-                    cases.ran();
+                    let lengths = [0, 1, 2].map(length);
+                    for out in [
+                        blocks_from_raster(&mut random, n, raster, lengths),
+                        overlay(&mut random, n, &first, &second, lengths),
+                    ] {
+                        agrees(
+                            format_args!("n = {n}, lists {short:03b} short by {missing}"),
+                            out.difference_from_refusal(8),
+                        );
+                        cases.ran();
+                    }
                 }
             }
         }
@@ -47,7 +56,7 @@ fn refused_rasters() {
                     (_, _, true) => 8,
                     _ => 0,
                 };
-                let out = BlocksOut::call(&mut random, n, &raster, [room, need, need]);
+                let out = blocks_from_raster(&mut random, n, &raster, [room, need, need]);
                 let difference = match expected {
                     0 => out.difference(&quadtree(n, &raster)),
                     _ => out.difference_from_refusal(expected),
@@ -83,6 +92,19 @@ fn rasters_too_short_and_too_long() {
     cases.end();
 }
 
+/// Damages each entry of the lists of a block list by turns.
+fn damaged(
+    random: &mut Random,
+    cases: &mut Cases,
+    out: &mut BlocksOut,
+    written: &Blocks,
+    difference: impl Fn(&BlocksOut) -> Option<String>,
+) {
+    each_place(random, cases, out, |o| &mut o.codes, &written.codes, &difference);
+    each_place(random, cases, out, |o| &mut o.levels, &written.levels, &difference);
+    each_place(random, cases, out, |o| &mut o.colours, &written.colours, &difference);
+}
+
 /// The comparisons of this package can fail: with one entry of an answer damaged, also one of a tail or a guard, they say so.
 #[test]
 fn damage_is_seen() {
@@ -92,31 +114,34 @@ fn damage_is_seen() {
         for raster in rasters::of_every_kind(&mut random, n) {
             let blocks = quadtree(n, &raster);
             let more = raster.len() + 2;
-            let mut out = BlocksOut::call(&mut random, n, &raster, [more, more, more]);
-            each_place(&mut random, &mut cases, &mut out, |o| &mut o.codes, &blocks.codes, |o| o.difference(&blocks));
-            each_place(&mut random, &mut cases, &mut out, |o| &mut o.levels, &blocks.levels, |o| o.difference(&blocks));
-            each_place(
-                &mut random,
-                &mut cases,
-                &mut out,
-                |o| &mut o.colours,
-                &blocks.colours,
-                |o| o.difference(&blocks),
-            );
-            out.written.count += 1;
-            assert!(out.difference(&blocks).is_some(), "another count");
-            out.written.count -= 1;
-            out.written.number = 8;
-            assert!(out.difference(&blocks).is_some(), "another number");
+            let other = rasters::any(&mut random, n);
+            let (second, over) = (quadtree(n, &other), quadtree(n, &larger(&raster, &other)));
+            for (mut out, blocks) in [
+                (blocks_from_raster(&mut random, n, &raster, [more; 3]), &blocks),
+                (overlay(&mut random, n, &blocks, &second, [more; 3]), &over),
+            ] {
+                damaged(&mut random, &mut cases, &mut out, blocks, |o| o.difference(blocks));
+                out.written.count += 1;
+                assert!(out.difference(blocks).is_some(), "another count");
+                out.written.count -= 1;
+                out.written.number = 8;
+                assert!(out.difference(blocks).is_some(), "another number");
+            }
 
             let mut back = raster_from_blocks(&mut random, n, &blocks, more);
             each_place(&mut random, &mut cases, &mut back, |b| &mut b.list, &raster, |b| b.difference(&raster));
             back.written.count = 0;
             assert!(back.difference(&raster).is_some(), "another count");
 
-            let mut refused = raster_from_blocks(&mut random, n, &blocks, raster.len() - 1);
+            let short = raster.len() - 1;
+            let mut refused = raster_from_blocks(&mut random, n, &blocks, short);
             each_place(&mut random, &mut cases, &mut refused, |r| &mut r.list, &[], |r| r.difference_from_refusal(8));
             assert!(refused.difference_from_refusal(6).is_some(), "another number");
+
+            let mut refused = overlay(&mut random, n, &blocks, &second, [short; 3]);
+            let none = Blocks::default();
+            damaged(&mut random, &mut cases, &mut refused, &none, |r| r.difference_from_refusal(8));
+            assert!(refused.difference_from_refusal(7).is_some(), "another number");
         }
     }
     cases.end();

@@ -1,6 +1,6 @@
 //! Rasters to blocks and back, against the model: every small raster, and random ones of every side.
 
-use tests::calls::{agrees, raster_from_blocks, BlocksOut};
+use tests::calls::{agrees, blocks_from_raster, raster_from_blocks};
 use tests::cases::Cases;
 use tests::compare::Shown;
 use tests::model::blocks::{number, paint, quadtree};
@@ -13,7 +13,7 @@ use tests::rasters;
 fn there_and_back(random: &mut Random, n: u32, raster: &[u16], more: usize) {
     let need = raster.len() + more;
     let blocks = quadtree(n, raster);
-    let out = BlocksOut::call(random, n, raster, [need, need, need]);
+    let out = blocks_from_raster(random, n, raster, [need, need, need]);
     agrees(format_args!("blocks of n = {n}, {}", Shown(raster)), out.difference(&blocks));
     assert_eq!(check(n, &blocks.codes, &blocks.levels, &blocks.colours), 0, "n = {n}, {blocks}");
     assert_eq!(number(n, &blocks.codes, &blocks.levels, &blocks.colours), 0, "the model: n = {n}, {blocks}");

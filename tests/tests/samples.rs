@@ -1,7 +1,7 @@
 //! Each colour from 0 to 65,535 on its way from a file to a raster, to blocks and to a raster again, held to the colour itself at each
 //! step.
 
-use tests::calls::{agrees, raster_from_blocks, BlocksOut, PictureOut};
+use tests::calls::{agrees, blocks_from_raster, raster_from_blocks, PictureOut};
 use tests::cases::Cases;
 use tests::compare::Shown;
 use tests::model::blocks::{pixel, Blocks};
@@ -17,7 +17,7 @@ fn goes_its_way(random: &mut Random, n: u32, maxval: u32, colours: &[u16]) {
     let picture = Read { number: 0, n, maxval, samples: colours.to_vec() };
     agrees(format_args!("raster of {}", Shown(bytes)), read.difference(&picture));
 
-    let mut merged = BlocksOut::call(random, n, read.raster.lend(), [whole; 3]);
+    let mut merged = blocks_from_raster(random, n, read.raster.lend(), [whole; 3]);
     let mut pixels = Blocks::default();
     for code in 0..whole as u32 {
         let (x, y) = pixel(code);
@@ -25,12 +25,7 @@ fn goes_its_way(random: &mut Random, n: u32, maxval: u32, colours: &[u16]) {
     }
     agrees(format_args!("blocks of {}", Shown(bytes)), merged.difference(&pixels));
 
-    let blocks = Blocks {
-        codes: merged.codes.lend().to_vec(),
-        levels: merged.levels.lend().to_vec(),
-        colours: merged.colours.lend().to_vec(),
-    };
-    let back = raster_from_blocks(random, n, &blocks, whole);
+    let back = raster_from_blocks(random, n, &merged.blocks(), whole);
     agrees(format_args!("raster again of {}", Shown(bytes)), back.difference(colours));
 }
 

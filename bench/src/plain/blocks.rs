@@ -1,4 +1,4 @@
-//! Block lists: the check, raster to blocks, blocks to raster.
+//! Block lists: the check, raster to blocks, blocks to raster, one list over another.
 
 use super::location::place;
 use crate::nettlestair::Written;
@@ -104,6 +104,29 @@ pub fn raster_from_blocks(n: u32, blocks: Blocks, raster: &mut [u16]) -> Written
         fill_square(raster, n, place(n, code), level, colour);
     }
     Written { number: 0, count: whole as u32 }
+}
+
+/// The merged list of one list laid over another: both painted, the larger colour taken at each place, and merged.
+pub fn overlay(
+    n: u32,
+    first: Blocks,
+    second: Blocks,
+    codes: &mut [u32],
+    levels: &mut [u8],
+    colours: &mut [u16],
+) -> Written {
+    let (mut raster, mut other) = ([0; 65_536], [0; 65_536]);
+    for (blocks, raster) in [(first, &mut raster), (second, &mut other)] {
+        let painted = raster_from_blocks(n, blocks, raster);
+        if painted.number != 0 {
+            return painted;
+        }
+    }
+    let raster = &mut raster[..1 << (2 * n)];
+    for (colour, &other) in raster.iter_mut().zip(&other) {
+        *colour = other.max(*colour);
+    }
+    blocks_from_raster(n, raster, codes, levels, colours)
 }
 
 /// Stores `value` in the square of side 2^level at the place `at`, in rows of 2^n.

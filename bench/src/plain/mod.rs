@@ -9,7 +9,7 @@ pub mod outlines;
 pub mod pgm;
 pub mod regions;
 
-pub use blocks::{blocks_from_raster, check, raster_from_blocks};
+pub use blocks::{blocks_from_raster, check, overlay, raster_from_blocks};
 pub use location::{code, spread_code};
 pub use outlines::trace;
 pub use pgm::read_pgm;

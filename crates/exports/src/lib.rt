@@ -5,6 +5,8 @@ ghost use Rattle.interleaving.specs.Codes.{code};
 ghost use Rattle.quadtree.specs.Number.{number};
 ghost use Rattle.merging.specs.Promise.{FromRaster};
 ghost use Rattle.painting.specs.Promise.{ToRaster};
+ghost use Rattle.runs.specs.Stored.{listOf};
+ghost use Rattle.overlaying.specs.Promise.{Overlay};
 ghost use Rattle.regions.specs.Promise.{Numbering};
 ghost use Rattle.tracing.specs.Tracing.{lent, Tracing};
 ghost use Rattle.stretches.specs.Stretch.{Place};
@@ -101,6 +103,44 @@ pub extern "C" fn nettlestair_raster_from_blocks(
     Written {
         number: painted.number,
         count: painted.count,
+    }
+}
+
+#[no_mangle]
+pub extern "C" fn nettlestair_overlay(
+    n: u32,
+    first_codes: &[u32],
+    first_levels: &[u8],
+    first_colours: &[u16],
+    second_codes: &[u32],
+    second_levels: &[u8],
+    second_colours: &[u16],
+    codes: &mut [u32],
+    levels: &mut [u8],
+    colours: &mut [u16],
+) -> Written
+    ensures { λ r. ⌜ Overlay n
+        (listOf (now («first_codes» .entry)) (now («first_levels» .entry)) (now («first_colours» .entry)))
+        (listOf (now («second_codes» .entry)) (now («second_levels» .entry)) (now («second_colours» .entry)))
+        (listOf (now (codes .entry)) (now (levels .entry)) (now (colours .entry)))
+        (listOf (now (codes .exit)) (now (levels .exit)) (now (colours .exit)))
+        (record { number = r .number; count = r .count }) ⌝ }
+{
+    let laid = overlaying::overlay(
+        n,
+        first_codes,
+        first_levels,
+        first_colours,
+        second_codes,
+        second_levels,
+        second_colours,
+        codes,
+        levels,
+        colours,
+    );
+    Written {
+        number: laid.number,
+        count: laid.count,
     }
 }
 

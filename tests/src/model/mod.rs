@@ -3,6 +3,7 @@
 pub mod blocks;
 pub mod lines;
 pub mod outlines;
+pub mod overlay;
 pub mod paths;
 pub mod pgm;
 pub mod regions;

@@ -1,0 +1,56 @@
+-- Three cases: a piece without pixels, one of the run's colour, one of another.
+use native.Mathlib.Omega.{arith}
+use borrow.Author.Needs.{needs}
+use Rattle.appending.specs.Appended.{end-small, same-lengths, appended-none, appended-same, appended-other}
+use Rattle.appending.proofs.append.Statement.{statement}
+use Rattle.appending.proofs.append.Tie as tie
+
+-- Where the run was written and where the call began, seen from its last return.
+abbrev wrote : tie.After-slice-known6 → tie.After-write-run
+wrote c = c .before .before .before .before .before .before
+
+abbrev entry : tie.After-write-run → tie.Start
+entry c = c .before .before .before .before .before .before .before .before .before .before
+
+returns : tie.Need-returns
+returns c = appended-none (c .before .before .before .before .pre) (c .if1 .taken)
+
+add-t11 : tie.Need-add-t11
+add-t11 c = omega (arith, end-small (c .before .before .before .before .before .before .before .pre))
+
+returns-2 : tie.Need-returns-2
+returns-2 c = appended-same (c .before .before .before .before .before .before .before .pre) (c .before .if2 .taken)
+
+write-run-requires : tie.Need-write-run-requires
+write-run-requires c κs = c .before .before .before .before .before .before .before .before .before .pre .room
+
+add-t18 : tie.Need-add-t18
+add-t18 c = omega (arith, end-small (entry (wrote c) .pre))
+
+same-length : tie.Need-same-length
+same-length c = same-lengths (entry (wrote c) .pre .room) (wrote c .write-run .ensures) .for-codes
+
+same-length-2 : tie.Need-same-length-2
+same-length-2 c = same-lengths (entry (wrote c) .pre .room) (wrote c .write-run .ensures) .for-levels
+
+same-length-3 : tie.Need-same-length-3
+same-length-3 c = same-lengths (entry (wrote c) .pre .room) (wrote c .write-run .ensures) .for-colours
+
+returns-3 : tie.Need-returns-3
+returns-3 c =
+    let w = wrote c in
+    appended-other (entry w .pre) (w .before .before .before .before .before .before .if1 .left) (w .before .before .before .before .if2 .left) (w .write-run .ensures)
+
+pub append-spec : {M : Type 1} → statement M
+append-spec =
+    tie.close
+    (tie.spec
+    returns
+    add-t11
+    returns-2
+    write-run-requires
+    add-t18
+    same-length
+    same-length-2
+    same-length-3
+    returns-3)

@@ -1,0 +1,184 @@
+-- The loop's invariant: both cursors stand at the end of the pending run, and what is written, what is pending and the pieces to come
+-- make the whole. The measure is the pixels left.
+use mathlib.Core.Path.{refl, _∙_}
+use Prim.Native.Nat.{_-_, _^_, _≤_, _<_}
+use native.Mathlib.Omega.{arith}
+use lib.ListN.{length}
+use borrow.Author.Needs.{needs}
+use Rattle.quadtree.specs.Lists.{blockOf}
+use Rattle.runs.specs.Stored.{listOf}
+use Rattle.appending.specs.Progress.{progress-few}
+use Rattle.overlaying.specs.Pass.{Passing, BlockHere, passing-none, in-second, first-here, second-here, done-on, piece-fits, end-on, passing-more, passed}
+use Rattle.overlaying.proofs.pass.lay_over.Statement.{statement}
+use Rattle.overlaying.proofs.pass.lay_over.Tie as tie
+
+abbrev Inv-loop : tie.InvT-loop
+Inv-loop n first-codes first-levels first-colours second-codes second-levels second-colours codes₀ levels₀ colours₀ pending₀ i₀ j₀ codes levels colours pending i j =
+    Passing n (listOf first-codes first-levels first-colours) (listOf second-codes second-levels second-colours) (listOf codes₀ levels₀ colours₀) (listOf codes levels colours) pending i j
+
+abbrev μ-loop : tie.MeasureT-loop
+μ-loop n first-codes first-levels first-colours second-codes second-levels second-colours codes₀ levels₀ colours₀ pending₀ i₀ j₀ codes levels colours pending i j =
+    4 ^ n - pending .to
+
+-- Where the call began and where a turn of the loop did.
+abbrev entry : tie.In-loop Inv-loop μ-loop → tie.Start Inv-loop μ-loop
+entry c = c .before .before .before .before .before .before .before .before .before .before .before
+
+abbrev begun : tie.After-larger Inv-loop μ-loop → tie.In-loop Inv-loop μ-loop
+begun c = c .before .before .before .before .before .before .before .before .before .before
+
+abbrev piece-known : tie.After-append Inv-loop μ-loop → tie.After-larger Inv-loop μ-loop
+piece-known c = c .before .before .before .before .before
+
+-- Where the last run was written, and where the loop ended.
+abbrev wrote : tie.After-slice-known9 Inv-loop μ-loop → tie.After-write-run Inv-loop μ-loop
+wrote c = c .before .before .before .before .before .before
+
+abbrev past : tie.After-write-run Inv-loop μ-loop → tie.At-loop Inv-loop μ-loop
+past c = c .before .before .before .before .before
+
+first : (c : tie.In-loop Inv-loop μ-loop) → let a = entry c .args in let l = c .before .loop in
+    BlockHere (a .n) (listOf (a .first-codes .now) (a .first-levels .now) (a .first-colours .now)) (l .pending .to) (l .i)
+first c = first-here (entry c .pre) (c .before .loop .inv) (c .loop-test .taken)
+
+second : (c : tie.In-loop Inv-loop μ-loop) → let a = entry c .args in let l = c .before .loop in
+    BlockHere (a .n) (listOf (a .second-codes .now) (a .second-levels .now) (a .second-colours .now)) (l .pending .to) (l .j)
+second c = second-here (entry c .pre) (c .before .loop .inv) (c .loop-test .taken)
+
+second-codes : (c : tie.In-loop Inv-loop μ-loop) → c .before .loop .j < length (entry c .args .second-codes .now)
+second-codes c = in-second (entry c .pre) (c .before .loop .inv) (c .loop-test .taken)
+
+-- The end of the next piece lies beyond the pending run, in the image.
+farther : (c : tie.After-larger Inv-loop μ-loop) → (begun c .before .loop .pending .to < c .before .before .before .least .result) × (c .before .before .before .least .result ≤ 4 ^ entry (begun c) .args .n)
+farther c =
+    let now = begun c in
+    done-on (entry now .pre) (now .before .loop .inv) (now .loop-test .taken) (c .before .before .before .before .before .before .before .end-of .ensures)
+    (c .before .before .before .before .end-of2 .ensures) (c .before .before .before .least .ensures) (c .larger .ensures)
+
+loop-holds : tie.Need-loop-holds Inv-loop μ-loop
+loop-holds c = passing-none (c .before .before .before .before .before .before .before .before .before .pre)
+
+mul-end-of : tie.Need-mul-end-of Inv-loop μ-loop
+mul-end-of c = search needs
+
+shared-slice-read-end-of : tie.Need-shared-slice-read-end-of Inv-loop μ-loop
+shared-slice-read-end-of c = search needs
+
+shared-slice-read-end-of-2 : tie.Need-shared-slice-read-end-of-2 Inv-loop μ-loop
+shared-slice-read-end-of-2 c = first (c .before .before) .in-levels
+
+end-of-requires : tie.Need-end-of-requires Inv-loop μ-loop
+end-of-requires c κs = let a = first (c .before .before) in (a .small, a .low)
+
+mul-end-of-2 : tie.Need-mul-end-of-2 Inv-loop μ-loop
+mul-end-of-2 c = let h = second-codes (c .before .before .before) in search needs
+
+shared-slice-read-end-of-3 : tie.Need-shared-slice-read-end-of-3 Inv-loop μ-loop
+shared-slice-read-end-of-3 c = second-codes (c .before .before .before .before)
+
+shared-slice-read-end-of-4 : tie.Need-shared-slice-read-end-of-4 Inv-loop μ-loop
+shared-slice-read-end-of-4 c = second (c .before .before .before .before .before) .in-levels
+
+end-of-requires-2 : tie.Need-end-of-requires-2 Inv-loop μ-loop
+end-of-requires-2 c κs = let b = second (c .before .before .before .before .before) in (b .small, b .low)
+
+least-requires : tie.Need-least-requires Inv-loop μ-loop
+least-requires c κs = search needs
+
+mul-larger : tie.Need-mul-larger Inv-loop μ-loop
+mul-larger c = let h = first (c .before .before .before .before .before .before .before) .in-colours in search needs
+
+shared-slice-read-larger : tie.Need-shared-slice-read-larger Inv-loop μ-loop
+shared-slice-read-larger c = first (c .before .before .before .before .before .before .before .before) .in-colours
+
+mul-larger-2 : tie.Need-mul-larger-2 Inv-loop μ-loop
+mul-larger-2 c = let h = second (c .before .before .before .before .before .before .before .before) .in-colours in search needs
+
+shared-slice-read-larger-2 : tie.Need-shared-slice-read-larger-2 Inv-loop μ-loop
+shared-slice-read-larger-2 c = second (c .before .before .before .before .before .before .before .before .before) .in-colours
+
+larger-requires : tie.Need-larger-requires Inv-loop μ-loop
+larger-requires c κs = search needs
+
+sub-size : tie.Need-sub-size Inv-loop μ-loop
+sub-size c = omega (arith, farther (c .before))
+
+append-requires : tie.Need-append-requires Inv-loop μ-loop
+append-requires c κs =
+    let known = c .before .before .before .before in
+    let now = begun known in
+    piece-fits (entry now .pre) (now .before .loop .inv) (now .loop-test .taken) (known .before .before .before .before .before .before .before .end-of .ensures)
+    (known .before .before .before .before .end-of2 .ensures) (known .before .before .before .least .ensures) (known .larger .ensures)
+
+onward-requires : tie.Need-onward-requires Inv-loop μ-loop
+onward-requires c κs = let now = begun (piece-known (c .before .before .before .before .before .before)) in omega (arith, now .loop-test .taken, entry now .good)
+
+onward-requires-2 : tie.Need-onward-requires-2 Inv-loop μ-loop
+onward-requires-2 c κs = let now = begun (piece-known (c .before .before .before .before .before .before .before)) in omega (arith, second-codes now, entry now .good)
+
+loop-less : tie.Need-loop-less Inv-loop μ-loop
+loop-less c =
+    let done = c .before .before .before .before .before .before .before .before in
+    let known = piece-known done in
+    let now = begun known in
+    omega (arith, farther known, end-on (entry now .pre) (now .before .loop .inv) (now .loop-test .taken) (known .before .before .before .before .before .before .before .end-of .ensures)
+    (known .before .before .before .before .end-of2 .ensures) (known .before .before .before .least .ensures) (known .larger .ensures) (done .append .ensures))
+
+loop-again : tie.Need-loop-again Inv-loop μ-loop
+loop-again c =
+    let done = c .before .before .before .before .before .before .before .before in
+    let known = piece-known done in
+    let now = begun known in
+    passing-more (entry now .pre) (now .before .loop .inv) (now .loop-test .taken) (known .before .before .before .before .before .before .before .end-of .ensures)
+    (known .before .before .before .before .end-of2 .ensures) (known .before .before .before .least .ensures) (known .larger .ensures) (done .append .ensures) (c .before .onward .ensures) (c .onward2 .ensures)
+
+write-run-requires : tie.Need-write-run-requires Inv-loop μ-loop
+write-run-requires c κs = c .before .before .before .before .loop .inv .progress .room
+
+same-length : tie.Need-same-length Inv-loop μ-loop
+same-length c = let w = wrote c in progress-few (past w .loop .inv .progress) (w .write-run .ensures) .1 .for-codes
+
+same-length-2 : tie.Need-same-length-2 Inv-loop μ-loop
+same-length-2 c = let w = wrote c in progress-few (past w .loop .inv .progress) (w .write-run .ensures) .1 .for-levels
+
+same-length-3 : tie.Need-same-length-3 Inv-loop μ-loop
+same-length-3 c = let w = wrote c in progress-few (past w .loop .inv .progress) (w .write-run .ensures) .1 .for-colours
+
+returns : tie.Need-returns Inv-loop μ-loop
+returns c =
+    let w = wrote c in
+    let l = past w in
+    passed (l .before .before .before .before .before .before .before .before .before .before .pre) (l .loop .inv) (w .before .before .before .before .loop-test .left) (w .write-run .ensures)
+
+pub lay-over-spec : {M : Type 1} → statement M
+lay-over-spec =
+    tie.close
+    (tie.spec
+    Inv-loop
+    μ-loop
+    loop-holds
+    mul-end-of
+    shared-slice-read-end-of
+    shared-slice-read-end-of-2
+    end-of-requires
+    mul-end-of-2
+    shared-slice-read-end-of-3
+    shared-slice-read-end-of-4
+    end-of-requires-2
+    least-requires
+    mul-larger
+    shared-slice-read-larger
+    mul-larger-2
+    shared-slice-read-larger-2
+    larger-requires
+    sub-size
+    append-requires
+    onward-requires
+    onward-requires-2
+    loop-less
+    loop-again
+    write-run-requires
+    same-length
+    same-length-2
+    same-length-3
+    returns)

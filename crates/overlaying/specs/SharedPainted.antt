@@ -1,0 +1,69 @@
+-- The pieces that two covering lists share paint the larger colours, so they are written as the quadtree of those.
+use mathlib.Core.Path.{_≡_, refl, sym, ap, ap₂, _∙_}
+use mathlib.Core.List.{List, [], _∷_, _++_}
+use Prim.Native.Nat.{ℕ, zero, suc, _+_, _-_, _^_, _≤_, _<_, max}
+use native.Mathlib.Omega.{arith}
+use lib.ListN.{length, replicate}
+use Rattle.quadtree.specs.Blocks.{Block, paint}
+use Rattle.quadtree.specs.Quadtree.{quadtree}
+use Rattle.quadtree.specs.Covering.{Covers, pixels-covering}
+use Rattle.quadtree.specs.Painting.{block, length-paint}
+use Rattle.runs.specs.Pieces.{painted, span, length-painted}
+use Rattle.runs.specs.Written.{written}
+use Rattle.runs.specs.WrittenQuadtree.{written-is-quadtree}
+use Rattle.overlaying.specs.Larger.{larger, larger-none, larger-stretch, length-larger}
+use Rattle.overlaying.specs.Shared.{end, onward, nearer, shared, one-goes-on, shared-more, shared-end}
+use Rattle.overlaying.specs.Cursors.{At, left, Here, here, at-start, left-start, at-onward, left-onward, apart}
+
+shared-paints : (k n c : ℕ) (xs ys : List Block) → length xs + length ys ≤ k → At n c xs → At n c ys → painted (shared c xs ys) ≡ larger (left c xs) (left c ys)
+unfolding painted left
+shared-paints zero n c [] [] h p q = ap painted (shared-end c []) ∙ sym larger-none
+shared-paints zero n c [] (b ∷ ys) h p q = absurd (omega arith)
+shared-paints zero n c (a ∷ xs) ys h p q = absurd (omega arith)
+shared-paints (suc k) n c [] [] h p q = ap painted (shared-end c []) ∙ sym larger-none
+shared-paints (suc k) n c [] (b ∷ ys) h p q = absurd (apart n c b ys p q)
+shared-paints (suc k) n c (a ∷ xs) [] h p q = absurd (apart n c a xs q p)
+shared-paints (suc k) n c (a ∷ xs) (b ∷ ys) h p q = step (shared-paints k n (nearer a b) (onward (nearer a b) (a ∷ xs)) (onward (nearer a b) (b ∷ ys)))
+  where
+    d : ℕ
+    d = nearer a b
+
+    step : (length (onward d (a ∷ xs)) + length (onward d (b ∷ ys)) ≤ k → At n d (onward d (a ∷ xs)) → At n d (onward d (b ∷ ys))
+        → painted (shared d (onward d (a ∷ xs)) (onward d (b ∷ ys))) ≡ larger (left d (onward d (a ∷ xs))) (left d (onward d (b ∷ ys))))
+        → painted (shared c (a ∷ xs) (b ∷ ys)) ≡ larger (left c (a ∷ xs)) (left c (b ∷ ys))
+    step again =
+        let less = one-goes-on a b xs ys in
+        let from : c ≤ d = omega (arith, here n c a xs p, here n c b ys q) in
+        let rest = again (omega arith) (at-onward n c d a xs p from (omega arith)) (at-onward n c d b ys q from (omega arith)) in
+        ap painted (shared-more c a b xs ys)
+        ∙ ap (λ (t : List ℕ). replicate (d - c) (max (a .colour) (b .colour)) ++ t) rest
+        ∙ sym (larger-stretch (d - c) (a .colour) (b .colour) (left d (onward d (a ∷ xs))) (left d (onward d (b ∷ ys))))
+        ∙ sym (ap₂ larger (left-onward n c d a xs p from (omega arith)) (left-onward n c d b ys q from (omega arith)))
+
+-- The pixels that a covering list paints.
+pub length-covering : (n : ℕ) (bs : List Block) → Covers n 0 bs → length (paint bs) ≡ 4 ^ n
+length-covering n bs h = omega (arith, length-paint bs, pixels-covering n 0 bs h)
+
+module _ (n : ℕ) (xs ys : List Block) (f : Covers n 0 xs) (g : Covers n 0 ys) where
+  whole-paints : painted (shared 0 xs ys) ≡ larger (paint xs) (paint ys)
+  whole-paints =
+      shared-paints (length xs + length ys) n 0 xs ys (omega arith) (at-start n 0 xs f) (at-start n 0 ys g)
+      ∙ ap₂ larger (left-start n 0 xs f) (left-start n 0 ys g)
+
+  pub length-of-both : length (larger (paint xs) (paint ys)) ≡ 4 ^ n
+  length-of-both = length-larger (paint xs) (paint ys) (length-covering n xs f ∙ sym (length-covering n ys g)) ∙ length-covering n xs f
+
+  pub span-shared : span (shared 0 xs ys) ≡ 4 ^ n
+  span-shared = sym (length-painted (shared 0 xs ys)) ∙ ap length whole-paints ∙ length-of-both
+
+  pub shared-written : n ≤ 8 → written n (shared 0 xs ys) ≡ quadtree n (larger (paint xs) (paint ys))
+  shared-written small = written-is-quadtree n (shared 0 xs ys) (larger (paint xs) (paint ys)) small whole-paints length-of-both
+
+-- Four quarters under a square of the largest of their colours become one block; two lists of four quarters may do so too.
+quarters-become-one : written 1 (shared 0 (block 0 0 9 ∷ block 1 0 1 ∷ block 2 0 2 ∷ block 3 0 0 ∷ []) (block 0 1 9 ∷ [])) ≡ block 0 1 9 ∷ []
+unfolding written shared
+quarters-become-one = refl
+
+quarters-over-quarters : written 1 (shared 0 (block 0 0 1 ∷ block 1 0 2 ∷ block 2 0 2 ∷ block 3 0 2 ∷ []) (block 0 0 2 ∷ block 1 0 1 ∷ block 2 0 1 ∷ block 3 0 1 ∷ [])) ≡ block 0 1 2 ∷ []
+unfolding written shared
+quarters-over-quarters = refl
