@@ -2,10 +2,10 @@
 use mathlib.Core.Path.{_≡_, refl, sym, ap, _∙_, subst}
 use Prim.Native.Nat.{ℕ, zero, suc, _+_, _-_, _^_, _≤_, _<_}
 use native.Mathlib.Omega.{arith}
-use Rattle.sequences.specs.Powers.{pow4-mono}
+use Rattle.sequences.specs.Powers.{pow4-pos, pow4-mono}
 use Rattle.location.specs.Levels.{topLevel, pixelsOf, pixels-are-power}
 use Rattle.location.specs.TopLevels.{top-level-fits}
-use Rattle.runs.specs.Squares.{levelWithin, levelIn, within-fits, within-down}
+use Rattle.runs.specs.Squares.{levelWithin, levelIn, within-none, within-fits, within-down}
 
 -- A run with pixels, inside the image.
 pub record RunIn (n p to : ℕ) : Type 0 where
@@ -18,9 +18,18 @@ pub record Descending (n p to l : ℕ) : Type 0 where
   pub low : l ≤ n
   pub same : levelWithin to p l ≡ levelIn n p to
 
+within-few : (to p l : ℕ) → to < p + 4 → levelWithin to p l ≡ 0
+within-few to p zero h = within-none to p
+within-few to p (suc l) h = within-down to p l (omega (arith, pow4-pos l)) ∙ within-few to p l h
+
 module _ {n p to : ℕ} (r : RunIn n p to) where
   pub run-small : to ≤ 65536
   run-small = omega (arith, r .inside, pow4-mono (r .small))
+
+  -- Fewer than four pixels are single squares.
+  pub level-of-few : to - p < 4 → 0 ≡ levelIn n p to
+  unfolding levelIn
+  level-of-few h = sym (within-few to p (topLevel n p) (omega (arith, r .some)))
 
   pub level-first : {l : ℕ} → l ≡ topLevel n p → Descending n p to l
   unfolding levelIn

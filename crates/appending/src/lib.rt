@@ -20,6 +20,9 @@ fn level_in(n: u32, from: usize, to: usize) -> u32
     requires { ⌜ RunIn n from to ⌝ }
     ensures { λ r. ⌜ r ≡ levelIn n from to ⌝ }
 {
+    if to - from < 4 {
+        return 0;
+    }
     let mut level = location::top_level(n, from as u32);
     loop {
         if from + location::pixels(level) <= to {

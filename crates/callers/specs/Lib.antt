@@ -1,3 +1,4 @@
 -- What the promises of the library's functions say where a caller stands.
 pub mod Demand3
 pub mod PathData
+pub mod LaidOver

@@ -5,3 +5,4 @@ pub mod Shared
 pub mod Cursors
 pub mod SharedPainted
 pub mod Pass
+pub mod Callers

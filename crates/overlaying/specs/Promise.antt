@@ -1,6 +1,6 @@
 -- What laying one block list over another promises: the answer, and the later content of each list that is written to.
 use mathlib.Core.Path.{_≡_, refl, sym, ap, _∙_}
-use mathlib.Core.Bool.{Bool, true, false, _||_}
+use mathlib.Core.Bool.{Bool, true, false, _||_, true≢false}
 use mathlib.Core.List.{List, []}
 use Prim.Native.Nat.{ℕ, _^_, _≤_, _<_, min}
 use native.Mathlib.Decide.{decLt}
@@ -58,7 +58,7 @@ pub record Overlay (n : ℕ) (a b before after : BlockList) (r : Written) : Type
 -- ---- cause by cause
 
 module _ (n : ℕ) (lent : BlockList) where
-  some-short : min (length (lent .codes)) (min (length (lent .levels)) (length (lent .colours))) < 4 ^ n → tooShort n lent ≡ true
+  pub some-short : min (length (lent .codes)) (min (length (lent .levels)) (length (lent .colours))) < 4 ^ n → tooShort n lent ≡ true
   unfolding tooShort
   some-short h = pick (decLt (length (lent .codes)) (4 ^ n)) (decLt (length (lent .levels)) (4 ^ n))
     where
@@ -82,6 +82,13 @@ module _ (n : ℕ) (lent : BlockList) where
   unfolding tooShort
   none-short room =
       rw (le-ltb (length (lent .codes)) (4 ^ n) (room .in-codes), le-ltb (length (lent .levels)) (4 ^ n) (room .in-levels), le-ltb (length (lent .colours)) (4 ^ n) (room .in-colours)) refl
+
+  pub room-of : tooShort n lent ≡ false → RoomFor (4 ^ n) lent
+  room-of e = pick (decLt (min (length (lent .codes)) (min (length (lent .levels)) (length (lent .colours)))) (4 ^ n))
+    where
+      pick : Dec (min (length (lent .codes)) (min (length (lent .levels)) (length (lent .colours))) < 4 ^ n) → RoomFor (4 ^ n) lent
+      pick (yes h) = absurd (true≢false (sym (some-short h) ∙ e))
+      pick (no h) = record { in-codes = omega arith; in-levels = omega arith; in-colours = omega arith }
 
 module _ (n : ℕ) (a b lent : BlockList) where
   -- A refusal returns its number and leaves all lists.
@@ -114,7 +121,7 @@ module _ (n : ℕ) (a b lent : BlockList) where
     second-refused {k} e some = refused (omega arith) (e ∙ sym (number-of-second (omega (arith, e))))
 
     module _ (second-none-of-it : numberOf n b ≡ 0) where
-      number-of-lent : overlayNumber n a b lent ≡ when (tooShort n lent) 8
+      pub number-of-lent : overlayNumber n a b lent ≡ when (tooShort n lent) 8
       unfolding overlayNumber
       number-of-lent =
           first-none (numberOf n a) (first (numberOf n b) (when (tooShort n lent) 8)) first-none-of-it
