@@ -84,11 +84,10 @@ pub fn append(
             count: pending.count,
         };
     }
-    let to = pending.to;
     let count = write_run(n, pending, codes, levels, colours);
     Pending {
-        from: to,
-        to: to + size,
+        from: pending.to,
+        to: pending.to + size,
         colour,
         count,
     }

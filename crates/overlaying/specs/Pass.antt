@@ -169,10 +169,9 @@ module _ {n : ℕ} {a b before : BlockList} (o : Overlayable n a b before) where
       advanced : Progress n (overlaid n a b) (next-piece ∷ left-over) before now p
       advanced = subst (λ ps. Progress n (overlaid n a b) ps before now p) pieces (m .progress)
 
-      -- What the code works out: the ends of both blocks, the nearer of them, the larger colour.
-      module _ {end₁ end₂ done colour : ℕ} (e : end₁ ≡ getD (a .codes) i 0 + 4 ^ getD (a .levels) i 0)
-          (f : end₂ ≡ getD (b .codes) j 0 + 4 ^ getD (b .levels) j 0) (g : done ≡ min end₁ end₂)
-          (k : colour ≡ max (getD (a .colours) i 0) (getD (b .colours) j 0)) where
+      -- What the code works out: the ends of both blocks, and the nearer of them.
+      module _ {end₁ end₂ done : ℕ} (e : end₁ ≡ getD (a .codes) i 0 + 4 ^ getD (a .levels) i 0) (f : end₂ ≡ getD (b .codes) j 0 + 4 ^ getD (b .levels) j 0)
+          (g : done ≡ min end₁ end₂) where
         first-end : end₁ ≡ end (blockIn a i)
         unfolding blockOf
         first-end = e
@@ -180,10 +179,6 @@ module _ {n : ℕ} {a b before : BlockList} (o : Overlayable n a b before) where
         second-end : end₂ ≡ end (blockIn b j)
         unfolding blockOf
         second-end = f
-
-        larger-colour : colour ≡ max (blockIn a i .colour) (blockIn b j .colour)
-        unfolding blockOf
-        larger-colour = k
 
         nearest : done ≡ d
         nearest = g ∙ ap₂ (λ (x y : ℕ). min x y) first-end second-end
@@ -194,39 +189,45 @@ module _ {n : ℕ} {a b before : BlockList} (o : Overlayable n a b before) where
         pub piece-fits : Fits n p (done - p .to) now
         piece-fits = subst (λ (x : ℕ). Fits n p (x - p .to) now) (sym nearest) (progress-fits advanced)
 
-        module _ {after : BlockList} {q : Pending} (w : Appended n p (piece (done - p .to) colour) now after q) where
-          appended : Appended n p next-piece now after q
-          appended = subst (λ (x : ℕ). Appended n p (piece (x - p .to) (max (blockIn a i .colour) (blockIn b j .colour))) now after q) nearest
-              (subst (λ (v : ℕ). Appended n p (piece (done - p .to) v) now after q) larger-colour w)
-
+        -- The piece appended, and the larger colour.
+        module _ {colour : ℕ} {after : BlockList} {q : Pending} (w : Appended n p (piece (done - p .to) colour) now after q) where
           pub end-on : q .to ≡ done
           end-on =
-              let here : q .to ≡ p .to + (d - p .to) = ap (λ (r : Pending). r .to) (appended .answer) ∙ next-end n (runOf p) next-piece in
-              omega (arith, from, nearest)
+              let to : q .to ≡ p .to + (done - p .to) = ap (λ (r : Pending). r .to) (w .answer) ∙ next-end n (runOf p) (piece (done - p .to) colour) in
+              omega (arith, done-on)
 
-          pub passing-more : {i′ j′ : ℕ} → i′ ≡ indexOn i end₁ done → j′ ≡ indexOn j end₂ done → Passing n a b before after q i′ j′
-          passing-more {i′} {j′} ei ej =
-              let to : q .to ≡ d = end-on ∙ nearest in
-              let one : onward d (drop i (blocksOf a)) ≡ drop i′ (blocksOf a) =
-              step-on n a (o .first) i d more
-              ∙ ap₂ (λ (x y : ℕ). drop (indexOn i x y) (blocksOf a)) (sym first-end) (sym nearest) ∙ ap (λ (x : ℕ). drop x (blocksOf a)) (sym ei) in
-              let two : onward d (drop j (blocksOf b)) ≡ drop j′ (blocksOf b) =
-              step-on n b (o .second) j d in-second
-              ∙ ap₂ (λ (x y : ℕ). drop (indexOn j x y) (blocksOf b)) (sym second-end) (sym nearest) ∙ ap (λ (x : ℕ). drop x (blocksOf b)) (sym ej) in
-              record {
-                first =
-                    subst (λ (x : ℕ). At n x (drop i′ (blocksOf a))) (sym to)
-                    (subst (At n d) (ap (onward d) (sym (rest n a (o .first) i more)) ∙ one)
-                    (at-onward n (p .to) d (blockIn a i) (drop (suc i) (blocksOf a)) at-first from (omega arith)));
-                second =
-                    subst (λ (x : ℕ). At n x (drop j′ (blocksOf b))) (sym to)
-                    (subst (At n d) (ap (onward d) (sym (rest n b (o .second) j in-second)) ∙ two)
-                    (at-onward n (p .to) d (blockIn b j) (drop (suc j) (blocksOf b)) at-second from (omega arith)));
-                progress =
-                    subst (λ ps. Progress n (overlaid n a b) ps before after q)
-                    (ap₂ (λ (xs ys : List Block). shared d xs ys) one two ∙ ap (λ (x : ℕ). shared x (drop i′ (blocksOf a)) (drop j′ (blocksOf b))) (sym to))
-                    (progress-more advanced appended);
-              }
+          module _ (k : colour ≡ max (getD (a .colours) i 0) (getD (b .colours) j 0)) where
+            larger-colour : colour ≡ max (blockIn a i .colour) (blockIn b j .colour)
+            unfolding blockOf
+            larger-colour = k
+
+            appended : Appended n p next-piece now after q
+            appended = subst (λ (x : ℕ). Appended n p (piece (x - p .to) (max (blockIn a i .colour) (blockIn b j .colour))) now after q) nearest
+                (subst (λ (v : ℕ). Appended n p (piece (done - p .to) v) now after q) larger-colour w)
+
+            pub passing-more : {i′ j′ : ℕ} → i′ ≡ indexOn i end₁ done → j′ ≡ indexOn j end₂ done → Passing n a b before after q i′ j′
+            passing-more {i′} {j′} ei ej =
+                let to : q .to ≡ d = end-on ∙ nearest in
+                let one : onward d (drop i (blocksOf a)) ≡ drop i′ (blocksOf a) =
+                step-on n a (o .first) i d more
+                ∙ ap₂ (λ (x y : ℕ). drop (indexOn i x y) (blocksOf a)) (sym first-end) (sym nearest) ∙ ap (λ (x : ℕ). drop x (blocksOf a)) (sym ei) in
+                let two : onward d (drop j (blocksOf b)) ≡ drop j′ (blocksOf b) =
+                step-on n b (o .second) j d in-second
+                ∙ ap₂ (λ (x y : ℕ). drop (indexOn j x y) (blocksOf b)) (sym second-end) (sym nearest) ∙ ap (λ (x : ℕ). drop x (blocksOf b)) (sym ej) in
+                record {
+                  first =
+                      subst (λ (x : ℕ). At n x (drop i′ (blocksOf a))) (sym to)
+                      (subst (At n d) (ap (onward d) (sym (rest n a (o .first) i more)) ∙ one)
+                      (at-onward n (p .to) d (blockIn a i) (drop (suc i) (blocksOf a)) at-first from (omega arith)));
+                  second =
+                      subst (λ (x : ℕ). At n x (drop j′ (blocksOf b))) (sym to)
+                      (subst (At n d) (ap (onward d) (sym (rest n b (o .second) j in-second)) ∙ two)
+                      (at-onward n (p .to) d (blockIn b j) (drop (suc j) (blocksOf b)) at-second from (omega arith)));
+                  progress =
+                      subst (λ ps. Progress n (overlaid n a b) ps before after q)
+                      (ap₂ (λ (xs ys : List Block). shared d xs ys) one two ∙ ap (λ (x : ℕ). shared x (drop i′ (blocksOf a)) (drop j′ (blocksOf b))) (sym to))
+                      (progress-more advanced appended);
+                }
 
     -- The first list's end is the image's end.
     pub passed : {after : BlockList} {count : ℕ} → length (a .codes) ≤ i → RunWritten n p now after count → AllWritten n a b before after count

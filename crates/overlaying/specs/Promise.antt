@@ -1,7 +1,7 @@
 -- What laying one block list over another promises: the answer, and the later content of each list that is written to.
 use mathlib.Core.Path.{_≡_, refl, sym, ap, _∙_}
 use mathlib.Core.Bool.{Bool, true, false, _||_, true≢false}
-use mathlib.Core.List.{List, []}
+use mathlib.Core.List.{List, [], _∷_}
 use Prim.Native.Nat.{ℕ, _^_, _≤_, _<_, min}
 use native.Mathlib.Decide.{decLt}
 use native.Mathlib.Omega.{arith}
@@ -14,8 +14,9 @@ use Rattle.quadtree.specs.Blocks.{Block, blocks, paint}
 use Rattle.quadtree.specs.Fields.{codes, levels, colours}
 use Rattle.quadtree.specs.Quadtree.{quadtree}
 use Rattle.quadtree.specs.Number.{number}
+use Rattle.quadtree.specs.Painting.{block}
 use Rattle.answers.specs.declared.Written.{Written}
-use Rattle.runs.specs.Stored.{BlockList, RoomFor, stored, stored-in-front}
+use Rattle.runs.specs.Stored.{BlockList, listOf, RoomFor, stored, stored-in-front}
 use Rattle.overlaying.specs.Larger.{larger}
 
 -- The blocks of a block list, its image, and its number from 1 to 7.
@@ -145,3 +146,17 @@ module _ (n : ℕ) (a b lent : BlockList) where
             in-levels = front .1 ∙ ap (λ (bs : List Block). over (levels bs) (lent .levels)) (sym all);
             in-colours = front .2 ∙ ap (λ (bs : List Block). over (colours bs) (lent .colours)) (sym all);
           }
+
+-- ---- two examples, n = 1
+
+-- A square of colour 3 under four pixels: the pixels of the larger colours.
+pixels-over-square : overlaid 1 (listOf (0 ∷ 1 ∷ 2 ∷ 3 ∷ []) (0 ∷ 0 ∷ 0 ∷ 0 ∷ []) (9 ∷ 1 ∷ 2 ∷ 0 ∷ [])) (listOf (0 ∷ []) (1 ∷ []) (3 ∷ []))
+    ≡ block 0 0 9 ∷ block 1 0 3 ∷ block 2 0 3 ∷ block 3 0 3 ∷ []
+unfolding overlaid
+pixels-over-square = refl
+
+-- Four pixels over four others become one block.
+pixels-become-one : overlaid 1 (listOf (0 ∷ 1 ∷ 2 ∷ 3 ∷ []) (0 ∷ 0 ∷ 0 ∷ 0 ∷ []) (1 ∷ 2 ∷ 2 ∷ 2 ∷ [])) (listOf (0 ∷ 1 ∷ 2 ∷ 3 ∷ []) (0 ∷ 0 ∷ 0 ∷ 0 ∷ []) (2 ∷ 1 ∷ 1 ∷ 1 ∷ []))
+    ≡ block 0 1 2 ∷ []
+unfolding overlaid
+pixels-become-one = refl

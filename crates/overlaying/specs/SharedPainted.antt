@@ -1,5 +1,5 @@
 -- The pieces that two covering lists share paint the larger colours, so they are written as the quadtree of those.
-use mathlib.Core.Path.{_≡_, refl, sym, ap, ap₂, _∙_}
+use mathlib.Core.Path.{_≡_, sym, ap, ap₂, _∙_}
 use mathlib.Core.List.{List, [], _∷_, _++_}
 use Prim.Native.Nat.{ℕ, zero, suc, _+_, _-_, _^_, _≤_, _<_, max}
 use native.Mathlib.Omega.{arith}
@@ -7,7 +7,7 @@ use lib.ListN.{length, replicate}
 use Rattle.quadtree.specs.Blocks.{Block, paint}
 use Rattle.quadtree.specs.Quadtree.{quadtree}
 use Rattle.quadtree.specs.Covering.{Covers, pixels-covering}
-use Rattle.quadtree.specs.Painting.{block, length-paint}
+use Rattle.quadtree.specs.Painting.{length-paint}
 use Rattle.runs.specs.Pieces.{painted, span, length-painted}
 use Rattle.runs.specs.Written.{written}
 use Rattle.runs.specs.WrittenQuadtree.{written-is-quadtree}
@@ -58,12 +58,3 @@ module _ (n : ℕ) (xs ys : List Block) (f : Covers n 0 xs) (g : Covers n 0 ys) 
 
   pub shared-written : n ≤ 8 → written n (shared 0 xs ys) ≡ quadtree n (larger (paint xs) (paint ys))
   shared-written small = written-is-quadtree n (shared 0 xs ys) (larger (paint xs) (paint ys)) small whole-paints length-of-both
-
--- Four quarters under a square of the largest of their colours become one block; two lists of four quarters may do so too.
-quarters-become-one : written 1 (shared 0 (block 0 0 9 ∷ block 1 0 1 ∷ block 2 0 2 ∷ block 3 0 0 ∷ []) (block 0 1 9 ∷ [])) ≡ block 0 1 9 ∷ []
-unfolding written shared
-quarters-become-one = refl
-
-quarters-over-quarters : written 1 (shared 0 (block 0 0 1 ∷ block 1 0 2 ∷ block 2 0 2 ∷ block 3 0 2 ∷ []) (block 0 0 2 ∷ block 1 0 1 ∷ block 2 0 1 ∷ block 3 0 1 ∷ [])) ≡ block 0 1 2 ∷ []
-unfolding written shared
-quarters-over-quarters = refl

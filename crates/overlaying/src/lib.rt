@@ -1,7 +1,7 @@
 // One block list laid over another: the merged list whose every pixel has the larger of the two colours.
 use answers::Written;
-use pass::least;
 use pass::lay_over;
+use pass::least;
 ghost use Rattle.runs.specs.Stored.{listOf};
 ghost use Rattle.overlaying.specs.Promise.{Overlay};
 

@@ -1,8 +1,8 @@
 // One pass over two block lists, a cursor in each: from the end of one piece to the nearer end of the two blocks, with the larger of
 // their colours.
+use appending::Pending;
 use appending::append;
 use appending::write_run;
-use appending::Pending;
 ghost use mathlib.Core.Path.{_≡_};
 ghost use Prim.Native.Nat.{_+_, _^_, _≤_, _<_, max, min};
 ghost use Rattle.runs.specs.Stored.{listOf};

@@ -6,8 +6,8 @@ use Rattle.appending.proofs.append.Statement.{statement}
 use Rattle.appending.proofs.append.Tie as tie
 
 -- Where the run was written and where the call began, seen from its last return.
-abbrev wrote : tie.After-slice-known6 → tie.After-write-run
-wrote c = c .before .before .before .before .before .before
+abbrev wrote : tie.After-struct-known3 → tie.After-write-run
+wrote c = c .before .before .before .before .before .before .before
 
 abbrev entry : tie.After-write-run → tie.Start
 entry c = c .before .before .before .before .before .before .before .before .before .before
@@ -15,8 +15,8 @@ entry c = c .before .before .before .before .before .before .before .before .bef
 returns : tie.Need-returns
 returns c = appended-none (c .before .before .before .before .pre) (c .if1 .taken)
 
-add-t11 : tie.Need-add-t11
-add-t11 c = omega (arith, end-small (c .before .before .before .before .before .before .before .pre))
+add-t10 : tie.Need-add-t10
+add-t10 c = omega (arith, end-small (c .before .before .before .before .before .before .before .pre))
 
 returns-2 : tie.Need-returns-2
 returns-2 c = appended-same (c .before .before .before .before .before .before .before .pre) (c .before .if2 .taken)
@@ -24,8 +24,8 @@ returns-2 c = appended-same (c .before .before .before .before .before .before .
 write-run-requires : tie.Need-write-run-requires
 write-run-requires c κs = c .before .before .before .before .before .before .before .before .before .pre .room
 
-add-t18 : tie.Need-add-t18
-add-t18 c = omega (arith, end-small (entry (wrote c) .pre))
+add-t17 : tie.Need-add-t17
+add-t17 c = omega (arith, end-small (entry (wrote c) .pre))
 
 same-length : tie.Need-same-length
 same-length c = same-lengths (entry (wrote c) .pre .room) (wrote c .write-run .ensures) .for-codes
@@ -46,10 +46,10 @@ append-spec =
     tie.close
     (tie.spec
     returns
-    add-t11
+    add-t10
     returns-2
     write-run-requires
-    add-t18
+    add-t17
     same-length
     same-length-2
     same-length-3

@@ -53,7 +53,7 @@ farther : (c : tie.After-larger Inv-loop μ-loop) → (begun c .before .loop .pe
 farther c =
     let now = begun c in
     done-on (entry now .pre) (now .before .loop .inv) (now .loop-test .taken) (c .before .before .before .before .before .before .before .end-of .ensures)
-    (c .before .before .before .before .end-of2 .ensures) (c .before .before .before .least .ensures) (c .larger .ensures)
+    (c .before .before .before .before .end-of2 .ensures) (c .before .before .before .least .ensures)
 
 loop-holds : tie.Need-loop-holds Inv-loop μ-loop
 loop-holds c = passing-none (c .before .before .before .before .before .before .before .before .before .pre)
@@ -71,7 +71,7 @@ end-of-requires : tie.Need-end-of-requires Inv-loop μ-loop
 end-of-requires c κs = let a = first (c .before .before) in (a .small, a .low)
 
 mul-end-of-2 : tie.Need-mul-end-of-2 Inv-loop μ-loop
-mul-end-of-2 c = let h = second-codes (c .before .before .before) in search needs
+mul-end-of-2 c = let now = c .before .before .before in omega (arith, second-codes now, entry now .good)
 
 shared-slice-read-end-of-3 : tie.Need-shared-slice-read-end-of-3 Inv-loop μ-loop
 shared-slice-read-end-of-3 c = second-codes (c .before .before .before .before)
@@ -86,29 +86,29 @@ least-requires : tie.Need-least-requires Inv-loop μ-loop
 least-requires c κs = search needs
 
 mul-larger : tie.Need-mul-larger Inv-loop μ-loop
-mul-larger c = let h = first (c .before .before .before .before .before .before .before) .in-colours in search needs
+mul-larger c = let now = c .before .before .before .before .before .before .before in omega (arith, first now, second now, entry now .good)
 
 shared-slice-read-larger : tie.Need-shared-slice-read-larger Inv-loop μ-loop
-shared-slice-read-larger c = first (c .before .before .before .before .before .before .before .before) .in-colours
+shared-slice-read-larger c = let now = c .before .before .before .before .before .before .before .before in omega (arith, first now, second now)
 
 mul-larger-2 : tie.Need-mul-larger-2 Inv-loop μ-loop
-mul-larger-2 c = let h = second (c .before .before .before .before .before .before .before .before) .in-colours in search needs
+mul-larger-2 c = let now = c .before .before .before .before .before .before .before .before in omega (arith, first now, second now, entry now .good)
 
 shared-slice-read-larger-2 : tie.Need-shared-slice-read-larger-2 Inv-loop μ-loop
-shared-slice-read-larger-2 c = second (c .before .before .before .before .before .before .before .before .before) .in-colours
+shared-slice-read-larger-2 c = let now = c .before .before .before .before .before .before .before .before .before in omega (arith, first now, second now)
 
 larger-requires : tie.Need-larger-requires Inv-loop μ-loop
 larger-requires c κs = search needs
 
 sub-size : tie.Need-sub-size Inv-loop μ-loop
-sub-size c = omega (arith, farther (c .before))
+sub-size c = omega (arith, farther (c .before), begun (c .before) .before .loop .inv .progress .room .ordered)
 
 append-requires : tie.Need-append-requires Inv-loop μ-loop
 append-requires c κs =
     let known = c .before .before .before .before in
     let now = begun known in
     piece-fits (entry now .pre) (now .before .loop .inv) (now .loop-test .taken) (known .before .before .before .before .before .before .before .end-of .ensures)
-    (known .before .before .before .before .end-of2 .ensures) (known .before .before .before .least .ensures) (known .larger .ensures)
+    (known .before .before .before .before .end-of2 .ensures) (known .before .before .before .least .ensures)
 
 onward-requires : tie.Need-onward-requires Inv-loop μ-loop
 onward-requires c κs = let now = begun (piece-known (c .before .before .before .before .before .before)) in omega (arith, now .loop-test .taken, entry now .good)
@@ -121,8 +121,12 @@ loop-less c =
     let done = c .before .before .before .before .before .before .before .before in
     let known = piece-known done in
     let now = begun known in
-    omega (arith, farther known, end-on (entry now .pre) (now .before .loop .inv) (now .loop-test .taken) (known .before .before .before .before .before .before .before .end-of .ensures)
-    (known .before .before .before .before .end-of2 .ensures) (known .before .before .before .least .ensures) (known .larger .ensures) (done .append .ensures))
+    omega (
+      arith,
+      farther known,
+      end-on (entry now .pre) (now .before .loop .inv) (now .loop-test .taken) (known .before .before .before .before .before .before .before .end-of .ensures)
+          (known .before .before .before .before .end-of2 .ensures) (known .before .before .before .least .ensures) (done .append .ensures),
+    )
 
 loop-again : tie.Need-loop-again Inv-loop μ-loop
 loop-again c =
@@ -130,7 +134,7 @@ loop-again c =
     let known = piece-known done in
     let now = begun known in
     passing-more (entry now .pre) (now .before .loop .inv) (now .loop-test .taken) (known .before .before .before .before .before .before .before .end-of .ensures)
-    (known .before .before .before .before .end-of2 .ensures) (known .before .before .before .least .ensures) (known .larger .ensures) (done .append .ensures) (c .before .onward .ensures) (c .onward2 .ensures)
+    (known .before .before .before .before .end-of2 .ensures) (known .before .before .before .least .ensures) (done .append .ensures) (known .larger .ensures) (c .before .onward .ensures) (c .onward2 .ensures)
 
 write-run-requires : tie.Need-write-run-requires Inv-loop μ-loop
 write-run-requires c κs = c .before .before .before .before .loop .inv .progress .room
