@@ -1,15 +1,15 @@
 -- What writing a run and appending a piece need and promise.
 use mathlib.Core.Path.{_≡_, refl, sym, ap, ap₂, _∙_}
 use mathlib.Core.Logic.{_≢_}
-use mathlib.Core.Bool.{Bool, true, false}
+use mathlib.Core.Bool.{true}
 use mathlib.Core.List.{List, []}
-use Prim.Native.Nat.{ℕ, _+_, _-_, _^_, _≤_, _<_}
+use Prim.Native.Nat.{ℕ, _+_, _-_, _^_, _≤_}
 use native.Mathlib.Omega.{arith}
 use lib.ListN.{length}
 use Rattle.sequences.specs.Powers.{pow4-mono}
 use Rattle.quadtree.specs.Blocks.{Block}
 use Rattle.runs.specs.Pieces.{Piece, piece}
-use Rattle.runs.specs.Squares.{squares, length-squares}
+use Rattle.runs.specs.Squares.{length-squares}
 use Rattle.runs.specs.Written.{Run, run, squaresOf, continues, ended, next, none-continues, same-continues, other-ends, nothing-ended, run-ended, run-longer, run-anew}
 use Rattle.runs.specs.Stored.{BlockList, stored, RoomFor, SameLengths, fewer, stored-none, length-stored}
 use Rattle.appending.specs.declared.Pending.{Pending}

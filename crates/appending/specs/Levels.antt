@@ -1,5 +1,5 @@
 -- The loop that finds the level of a square: from the largest that may begin at its code down to the first that fits the run.
-use mathlib.Core.Path.{_≡_, refl, sym, ap, _∙_, subst}
+use mathlib.Core.Path.{_≡_, sym, ap, _∙_}
 use Prim.Native.Nat.{ℕ, zero, suc, _+_, _-_, _^_, _≤_, _<_}
 use native.Mathlib.Omega.{arith}
 use Rattle.sequences.specs.Powers.{pow4-pos, pow4-mono}

@@ -1,13 +1,13 @@
 -- A caller's loop over pieces: what is written, what is pending and what is to come make the whole.
-use mathlib.Core.Path.{_≡_, refl, sym, ap, ap₂, _∙_, subst}
+use mathlib.Core.Path.{_≡_, refl, sym, ap, _∙_, subst}
 use mathlib.Core.List.{List, [], _∷_, _++_, append-assoc}
-use Prim.Native.Nat.{ℕ, _+_, _^_, _≤_, _<_}
+use Prim.Native.Nat.{ℕ, _+_, _^_, _≤_}
 use native.Mathlib.Omega.{arith}
 use lib.ListN.{length, length-append}
 use Rattle.quadtree.specs.Blocks.{Block}
 use Rattle.runs.specs.Pieces.{Piece, span}
 use Rattle.runs.specs.Squares.{length-squares}
-use Rattle.runs.specs.Written.{run, squaresOf, ended, next, writtenFrom, written, next-end, next-room, written-end, written-more}
+use Rattle.runs.specs.Written.{squaresOf, ended, next, writtenFrom, written, next-end, next-room, written-end, written-more}
 use Rattle.runs.specs.Stored.{BlockList, stored, RoomFor, SameLengths, same-again, room-again, fewer, stored-none, stored-more, length-stored}
 use Rattle.appending.specs.declared.Pending.{Pending}
 use Rattle.appending.specs.Appended.{runOf, pendingAt, Room, RunWritten, same-lengths, Fits, Appended}

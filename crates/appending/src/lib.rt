@@ -15,7 +15,8 @@ pub struct Pending {
     pub count: usize,
 }
 
-// The level of the largest square that may begin at the code `from` and does not pass the code `to`.
+// The level of the largest square that may begin at the code `from` and does not pass the code `to`. Up to three pixels have room for
+// single ones only.
 fn level_in(n: u32, from: usize, to: usize) -> u32
     requires { ⌜ RunIn n from to ⌝ }
     ensures { λ r. ⌜ r ≡ levelIn n from to ⌝ }

@@ -3,13 +3,11 @@ use mathlib.Core.Path.{_≡_, sym, ap, ap₂, _∙_, subst}
 use mathlib.Core.List.{List}
 use Prim.Native.Nat.{ℕ, _*_, _/_, _%_, _^_, _≤_, _<_, max}
 use native.Mathlib.Omega.{arith}
-use lib.ListN.{length, getD, take, length-take}
+use lib.ListN.{length, getD, length-take}
 use lib.Seq.{getD-take}
 use Rattle.sequences.specs.Ranges.{tabulate}
 use Rattle.interleaving.specs.Codes.{code}
-use Rattle.quadtree.specs.Blocks.{blocks, paint}
 use Rattle.quadtree.specs.Number.{number}
-use Rattle.quadtree.specs.Raster.{inRows}
 use Rattle.quadtree.specs.Orders.{in-rows-at}
 use Rattle.answers.specs.declared.Written.{Written}
 use Rattle.runs.specs.Stored.{BlockList}

@@ -1,12 +1,12 @@
 -- What a caller knows, from the promise, about the answer and the lists at exit.
-use mathlib.Core.Path.{_≡_, refl, sym, ap, ap₂, _∙_}
+use mathlib.Core.Path.{_≡_, sym, ap, ap₂, _∙_}
 use mathlib.Core.List.{List, [], map}
 use Prim.Native.Nat.{ℕ, _^_, _≤_, _<_, max, min}
 use native.Mathlib.Omega.{arith}
 use lib.ListN.{length, getD, take, length-map}
 use Rattle.sequences.specs.Cases.{first, when, first-zero, when-yes, when-no, when-zero, written-accepted, written-refused}
 use Rattle.sequences.specs.Over.{over, over-none, over-beyond, take-over}
-use Rattle.quadtree.specs.Blocks.{Block, blocks, paint}
+use Rattle.quadtree.specs.Blocks.{Block, paint}
 use Rattle.quadtree.specs.Fields.{codes, levels, colours, blocks-of-fields}
 use Rattle.quadtree.specs.Painting.{paint-quadtree}
 use Rattle.quadtree.specs.Accepted.{number-zero, quadtree-accepted, one-accepted-list}

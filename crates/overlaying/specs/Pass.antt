@@ -1,5 +1,5 @@
 -- The pass over both lists: what it needs, what it leaves, what holds at the head of its loop.
-use mathlib.Core.Path.{_≡_, refl, sym, ap, ap₂, _∙_, subst}
+use mathlib.Core.Path.{_≡_, sym, ap, ap₂, _∙_, subst}
 use mathlib.Core.Bool.{Bool, cond}
 use mathlib.Core.List.{List, [], _∷_}
 use Prim.Native.Nat.{ℕ, suc, _+_, _-_, _^_, _≤_, _<_, max, min}
@@ -11,7 +11,6 @@ use lib.Dec.{ltb}
 use borrow.Author.Tests.{lt-ltb, le-ltb}
 use Rattle.sequences.specs.Powers.{pow4-mono}
 use Rattle.quadtree.specs.Blocks.{Block}
-use Rattle.quadtree.specs.Number.{number}
 use Rattle.quadtree.specs.Covering.{Covers, covers-of-zero}
 use Rattle.quadtree.specs.Accepted.{number-zero}
 use Rattle.quadtree.specs.Lists.{EqualLengths, blockOf, length-blocks, rest-of-blocks}
@@ -19,7 +18,7 @@ use Rattle.runs.specs.Pieces.{Piece, piece}
 use Rattle.runs.specs.Written.{next-end}
 use Rattle.runs.specs.Stored.{BlockList, RoomFor, SameLengths, stored, fewer, length-stored}
 use Rattle.appending.specs.declared.Pending.{Pending}
-use Rattle.appending.specs.Appended.{runOf, pendingAt, pendingAfter, Room, RunWritten, Fits, Appended}
+use Rattle.appending.specs.Appended.{runOf, pendingAt, RunWritten, Fits, Appended}
 use Rattle.appending.specs.Progress.{Progress, progress-none, progress-fits, progress-more, progress-few, progress-done}
 use Rattle.overlaying.specs.Promise.{blocksOf, numberOf, overlaid}
 use Rattle.overlaying.specs.Shared.{end, onward, onward-stays, onward-leaves, nearer, shared, shared-more, shared-end}

@@ -1,7 +1,7 @@
 -- The pieces that two covering lists share paint the larger colours, so they are written as the quadtree of those.
 use mathlib.Core.Path.{_≡_, sym, ap, ap₂, _∙_}
 use mathlib.Core.List.{List, [], _∷_, _++_}
-use Prim.Native.Nat.{ℕ, zero, suc, _+_, _-_, _^_, _≤_, _<_, max}
+use Prim.Native.Nat.{ℕ, zero, suc, _+_, _-_, _^_, _≤_, max}
 use native.Mathlib.Omega.{arith}
 use lib.ListN.{length, replicate}
 use Rattle.quadtree.specs.Blocks.{Block, paint}
@@ -12,8 +12,8 @@ use Rattle.runs.specs.Pieces.{painted, span, length-painted}
 use Rattle.runs.specs.Written.{written}
 use Rattle.runs.specs.WrittenQuadtree.{written-is-quadtree}
 use Rattle.overlaying.specs.Larger.{larger, larger-none, larger-stretch, length-larger}
-use Rattle.overlaying.specs.Shared.{end, onward, nearer, shared, one-goes-on, shared-more, shared-end}
-use Rattle.overlaying.specs.Cursors.{At, left, Here, here, at-start, left-start, at-onward, left-onward, apart}
+use Rattle.overlaying.specs.Shared.{onward, nearer, shared, one-goes-on, shared-more, shared-end}
+use Rattle.overlaying.specs.Cursors.{At, left, here, at-start, left-start, at-onward, left-onward, apart}
 
 shared-paints : (k n c : ℕ) (xs ys : List Block) → length xs + length ys ≤ k → At n c xs → At n c ys → painted (shared c xs ys) ≡ larger (left c xs) (left c ys)
 unfolding painted left

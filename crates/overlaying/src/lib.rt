@@ -26,24 +26,23 @@ pub fn overlay(
         (listOf (now (codes .entry)) (now (levels .entry)) (now (colours .entry)))
         (listOf (now (codes .exit)) (now (levels .exit)) (now (colours .exit))) r ⌝ }
 {
-    let fault = blocks::check(n, first_codes, first_levels, first_colours);
-    if fault != 0 {
+    let first = blocks::check(n, first_codes, first_levels, first_colours);
+    if first != 0 {
         return Written {
-            number: fault,
+            number: first,
             count: 0,
         };
     }
-    let other = blocks::check(n, second_codes, second_levels, second_colours);
+    let second = blocks::check(n, second_codes, second_levels, second_colours);
+    let whole = location::pixels(n);
     let room = least(codes.len(), least(levels.len(), colours.len()));
-    let faulty = other != 0;
-    let short = room < location::pixels(n);
-    if faulty {
+    if second != 0 {
         return Written {
-            number: other,
+            number: second,
             count: 0,
         };
     }
-    if short {
+    if room < whole {
         return Written {
             number: 8,
             count: 0,

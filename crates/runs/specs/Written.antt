@@ -1,6 +1,6 @@
 -- Pieces taken one after the other, with one run whose end is not known yet: a piece of its colour makes the run longer; a piece of
 -- another ends it, and the run's squares are written.
-use mathlib.Core.Path.{_≡_, refl, ap, ap₂, _∙_}
+use mathlib.Core.Path.{_≡_, refl, ap, ap₂}
 use mathlib.Core.Logic.{_≢_}
 use mathlib.Core.Bool.{Bool, true, false, cond, _||_}
 use mathlib.Core.List.{List, [], _∷_, _++_}

@@ -1,6 +1,5 @@
 -- Three cases: a piece without pixels, one of the run's colour, one of another.
 use native.Mathlib.Omega.{arith}
-use borrow.Author.Needs.{needs}
 use Rattle.appending.specs.Appended.{end-small, same-lengths, appended-none, appended-same, appended-other}
 use Rattle.appending.proofs.append.Statement.{statement}
 use Rattle.appending.proofs.append.Tie as tie

@@ -1,6 +1,4 @@
 -- A block of level l has 4^l pixels.
-use mathlib.Core.Path.{ap}
-use Prim.Native.Nat.{_+_}
 use native.Mathlib.Omega.{arith}
 use borrow.Author.Needs.{needs}
 use Rattle.sequences.specs.Powers.{pow4-mono}

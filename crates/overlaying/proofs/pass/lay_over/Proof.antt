@@ -1,11 +1,9 @@
 -- The loop's invariant: both cursors stand at the end of the pending run, and what is written, what is pending and the pieces to come
 -- make the whole. The measure is the pixels left.
-use mathlib.Core.Path.{refl, _∙_}
 use Prim.Native.Nat.{_-_, _^_, _≤_, _<_}
 use native.Mathlib.Omega.{arith}
 use lib.ListN.{length}
 use borrow.Author.Needs.{needs}
-use Rattle.quadtree.specs.Lists.{blockOf}
 use Rattle.runs.specs.Stored.{listOf}
 use Rattle.appending.specs.Progress.{progress-few}
 use Rattle.overlaying.specs.Pass.{Passing, BlockHere, passing-none, in-second, first-here, second-here, done-on, piece-fits, end-on, passing-more, passed}

@@ -3,7 +3,6 @@ use mathlib.Core.Path.{sym, ap}
 use mathlib.Core.Bool.{Bool, cond}
 use Prim.Native.Nat.{_+_}
 use native.Mathlib.Omega.{arith}
-use borrow.Author.Needs.{needs}
 use borrow.Author.Tests.{lt-ltb, le-ltb}
 use Rattle.overlaying.proofs.pass.onward.Statement.{statement}
 use Rattle.overlaying.proofs.pass.onward.Tie as tie
