@@ -48,19 +48,19 @@ int main(void) {
     const uint32_t northwest[4] = {0, 1, 2, 3};
     const uint8_t whole[1] = {2}, pixels[4] = {0};
     const uint16_t ground[1] = {256}, larger[7] = {256, 256, 256, 257, 256, 256, 65535};
+    memset(c, 99, sizeof c);
+    memset(l, 99, sizeof l);
+    memset(k, 99, sizeof k);
     w = nettlestair_overlay(2, codes, 7, levels, 7, colours, 7, northwest, 1, whole, 1, ground, 1, c, 16, l, 16, k, 17);
     expect("overlay, answer", w.number == 0 && w.count == 7);
     expect("overlay, codes and levels", !memcmp(c, codes, sizeof codes) && !memcmp(l, levels, sizeof levels));
     expect("overlay, colours", !memcmp(k, larger, sizeof larger) && k[7] == 0x6363);
 
     const uint16_t before[4] = {1, 2, 2, 2}, after_cleaning[4] = {2, 1, 1, 1};
-    memset(c, 99, sizeof c);
-    memset(l, 99, sizeof l);
-    memset(k, 99, sizeof k);
     w = nettlestair_overlay(1, northwest, 4, pixels, 4, before, 4, northwest, 4, pixels, 4, after_cleaning, 4, c, 4, l, 4, k, 4);
     expect("overlay, answer of one block", w.number == 0 && w.count == 1 && c[0] == 0 && l[0] == 1 && k[0] == 2);
     for (int i = 1; i < 4; i++)
-        expect("overlay, entries after the block", c[i] == 0x63636363 && l[i] == 99 && k[i] == 0x6363);
+        expect("overlay, entries after the block", c[i] == codes[i] && l[i] == levels[i] && k[i] == larger[i]);
     w = nettlestair_overlay(1, northwest, 4, pixels, 4, before, 4, northwest, 4, pixels, 3, after_cleaning, 4, c, 3, l, 4, k, 4);
     expect("overlay, the second list faulty", w.number == 2 && w.count == 0);
     w = nettlestair_overlay(1, northwest, 4, pixels, 4, before, 4, northwest, 4, pixels, 4, after_cleaning, 4, c, 3, l, 4, k, 4);

@@ -157,7 +157,7 @@ fn reading() -> bool {
 /// One picture laid over another at n = 8. Says whether all answers were equal.
 pub fn overlay() -> bool {
     let mut equal = true;
-    println!("\nn = 8, microseconds for one picture over another (plain Rust has two rasters of its own on the stack)");
+    println!("\nn = 8, microseconds for one picture over another (plain Rust clears two rasters of its own)");
     println!("{:<28} {:^23} | {:^28} |", "", "blocks", "overlay");
     println!("{:<28} {:>7} {:>7} {:>7} | {HEADING} | answers", "", "first", "second", "merged");
     for (name, kinds) in &PAIRS {

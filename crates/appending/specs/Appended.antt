@@ -1,17 +1,17 @@
 -- What writing a run and appending a piece need and promise.
-use mathlib.Core.Path.{_≡_, refl, sym, ap, ap₂, _∙_}
+use mathlib.Core.Path.{_≡_, sym, ap, ap₂, _∙_}
 use mathlib.Core.Logic.{_≢_}
-use mathlib.Core.Bool.{true}
 use mathlib.Core.List.{List, []}
-use Prim.Native.Nat.{ℕ, _+_, _-_, _^_, _≤_}
+use Prim.Native.Nat.{ℕ, _+_, _-_, _^_, _≤_, _<_}
 use native.Mathlib.Omega.{arith}
 use lib.ListN.{length}
 use Rattle.sequences.specs.Powers.{pow4-mono}
 use Rattle.quadtree.specs.Blocks.{Block}
 use Rattle.runs.specs.Pieces.{Piece, piece}
 use Rattle.runs.specs.Squares.{length-squares}
-use Rattle.runs.specs.Written.{Run, run, squaresOf, continues, ended, next, none-continues, same-continues, other-ends, nothing-ended, run-ended, run-longer, run-anew}
-use Rattle.runs.specs.Stored.{BlockList, stored, RoomFor, SameLengths, fewer, stored-none, length-stored}
+use Rattle.runs.specs.Written.{Run, run, squaresOf, ended, next, same-continues, other-ends, nothing-ended, squares-ended, run-longer, run-anew}
+use Rattle.runs.specs.BlockLists.{BlockList, RoomFor, SameLengths, room-for-fewer}
+use Rattle.runs.specs.Stored.{stored, stored-none, length-stored}
 use Rattle.appending.specs.declared.Pending.{Pending}
 
 -- The run that is pending.
@@ -21,8 +21,8 @@ runOf p = run (p .from) (p .to) (p .colour)
 abbrev pub pendingAt : ℕ → ℕ → ℕ → ℕ → Pending
 pendingAt from to v count = record { from = from; to = to; colour = v; count = count }
 
--- A run of the image and lists of 4^n entries: no more blocks are written than pixels lie before the run, so its squares have room.
-pub record Room (n : ℕ) (p : Pending) (lists : BlockList) : Type 0 where
+-- A run of the image, and lists of 4^n entries: no more blocks are written than pixels lie before the run, so that its squares have room.
+pub record Writable (n : ℕ) (p : Pending) (lists : BlockList) : Type 0 where
   pub small : n ≤ 8
   pub ordered : p .from ≤ p .to
   pub inside : p .to ≤ 4 ^ n
@@ -34,10 +34,11 @@ pub record RunWritten (n : ℕ) (p : Pending) (before after : BlockList) (count 
   pub answer : count ≡ p .count + length (squaresOf n (runOf p))
   pub lists : after ≡ stored (p .count) (squaresOf n (runOf p)) before
 
--- Room, and a piece that the image still holds.
-pub record Fits (n : ℕ) (p : Pending) (size : ℕ) (lists : BlockList) : Type 0 where
-  pub room : Room n p lists
-  pub next : p .to + size ≤ 4 ^ n
+-- Besides, a piece with pixels, which the image still holds.
+pub record Appendable (n : ℕ) (p : Pending) (size : ℕ) (lists : BlockList) : Type 0 where
+  pub writable : Writable n p lists
+  pub some : 0 < size
+  pub inside : p .to + size ≤ 4 ^ n
 
 -- What is pending once a piece has come.
 abbrev pub pendingAfter : ℕ → Pending → Piece → Pending
@@ -53,44 +54,36 @@ pub record Appended (n : ℕ) (p : Pending) (a : Piece) (before after : BlockLis
   pub answer : q ≡ pendingAfter n p a
   pub lists : after ≡ stored (p .count) (ended n (runOf p) a) before
 
-pub same-lengths : {n : ℕ} {p : Pending} {before after : BlockList} {count : ℕ} → Room n p before → RunWritten n p before after count → SameLengths after before
-same-lengths {n} {p} {before} {after} {count} room w =
+pub same-lengths : {n : ℕ} {p : Pending} {before after : BlockList} {count : ℕ} → Writable n p before → RunWritten n p before after count → SameLengths after before
+same-lengths {n} {p} {before} {after} {count} h w =
     let few : length (squaresOf n (runOf p)) ≤ p .to - p .from = length-squares n (p .from) (p .to) (p .colour) in
-    length-stored (p .count) (squaresOf n (runOf p)) before after (w .lists) (fewer (omega (arith, room .few, room .ordered, room .inside)) (room .room))
+    length-stored (p .count) (squaresOf n (runOf p)) before after (w .lists) (room-for-fewer (omega (arith, h .few, h .ordered, h .inside)) (h .room))
 
 -- ---- appending a piece, case by case
 
-module _ {n size : ℕ} {p : Pending} {lists : BlockList} (f : Fits n p size lists) where
+module _ {n size : ℕ} {p : Pending} {lists : BlockList} (f : Appendable n p size lists) where
   -- An image has at most 65,536 pixels.
   pub end-small : p .to + size ≤ 65536
-  end-small = omega (arith, f .next, pow4-mono (f .room .small))
+  end-small = omega (arith, f .inside, pow4-mono (f .writable .small))
 
   -- The run goes on, longer by the piece.
-  goes-on : (colour : ℕ) → continues (runOf p) (piece size colour) ≡ true → (q : Pending) → q ≡ pendingAt (p .from) (p .to + size) (p .colour) (p .count)
-      → Appended n p (piece size colour) lists lists q
-  goes-on colour t q e =
+  pub appended-same : {colour : ℕ} → colour ≡ p .colour → Appended n p (piece size colour) lists lists (pendingAt (p .from) (p .to + size) (p .colour) (p .count))
+  appended-same {colour} e =
+      let t = same-continues (runOf p) (piece size colour) e in
       let none : ended n (runOf p) (piece size colour) ≡ [] = nothing-ended n (runOf p) (piece size colour) t in
       let longer = run-longer n (runOf p) (piece size colour) t in
       let same : p .count ≡ p .count + length (ended n (runOf p) (piece size colour)) = omega (arith, ap length none) in
       record {
-        answer = e ∙ ap₂ (λ (r : Run) (k : ℕ). pendingAt (r .from) (r .to) (r .colour) k) (sym longer) same;
+        answer = ap₂ (λ (r : Run) (k : ℕ). pendingAt (r .from) (r .to) (r .colour) k) (sym longer) same;
         lists = sym (ap (λ (bs : List Block). stored (p .count) bs lists) none ∙ stored-none (p .count) lists);
       }
 
-  pub appended-none : {colour : ℕ} → size ≡ 0 → Appended n p (piece size colour) lists lists p
-  appended-none {colour} z =
-      let e : p .to ≡ p .to + size = omega arith in
-      goes-on colour (none-continues (runOf p) (piece size colour) z) p (ap (λ (k : ℕ). pendingAt (p .from) k (p .colour) (p .count)) e)
-
-  pub appended-same : {colour : ℕ} → colour ≡ p .colour → Appended n p (piece size colour) lists lists (pendingAt (p .from) (p .to + size) (p .colour) (p .count))
-  appended-same {colour} e = goes-on colour (same-continues (runOf p) (piece size colour) e) (pendingAt (p .from) (p .to + size) (p .colour) (p .count)) refl
-
   -- The run is written, and the piece begins another.
-  pub appended-other : {colour count : ℕ} {after : BlockList} → size ≢ 0 → colour ≢ p .colour → RunWritten n p lists after count
+  pub appended-other : {colour count : ℕ} {after : BlockList} → colour ≢ p .colour → RunWritten n p lists after count
       → Appended n p (piece size colour) lists after (pendingAt (p .to) (p .to + size) colour count)
-  appended-other {colour} {count} {after} some other w =
-      let t = other-ends (runOf p) (piece size colour) some other in
-      let all : ended n (runOf p) (piece size colour) ≡ squaresOf n (runOf p) = run-ended n (runOf p) (piece size colour) t in
+  appended-other {colour} {count} {after} other w =
+      let t = other-ends (runOf p) (piece size colour) (λ z. omega (arith, f .some)) other in
+      let all : ended n (runOf p) (piece size colour) ≡ squaresOf n (runOf p) = squares-ended n (runOf p) (piece size colour) t in
       let anew = run-anew n (runOf p) (piece size colour) t in
       record {
         answer =

@@ -1,20 +1,21 @@
 -- A caller's loop over pieces: what is written, what is pending and what is to come make the whole.
 use mathlib.Core.Path.{_≡_, refl, sym, ap, _∙_, subst}
 use mathlib.Core.List.{List, [], _∷_, _++_, append-assoc}
-use Prim.Native.Nat.{ℕ, _+_, _^_, _≤_}
+use Prim.Native.Nat.{ℕ, _+_, _^_, _≤_, _<_}
 use native.Mathlib.Omega.{arith}
 use lib.ListN.{length, length-append}
 use Rattle.quadtree.specs.Blocks.{Block}
 use Rattle.runs.specs.Pieces.{Piece, span}
 use Rattle.runs.specs.Squares.{length-squares}
 use Rattle.runs.specs.Written.{squaresOf, ended, next, writtenFrom, written, next-end, next-room, written-end, written-more}
-use Rattle.runs.specs.Stored.{BlockList, stored, RoomFor, SameLengths, same-again, room-again, fewer, stored-none, stored-more, length-stored}
+use Rattle.runs.specs.BlockLists.{BlockList, RoomFor, SameLengths, same-again, room-again, room-for-fewer}
+use Rattle.runs.specs.Stored.{stored, stored-none, stored-more, length-stored}
 use Rattle.appending.specs.declared.Pending.{Pending}
-use Rattle.appending.specs.Appended.{runOf, pendingAt, Room, RunWritten, same-lengths, Fits, Appended}
+use Rattle.appending.specs.Appended.{runOf, pendingAt, Writable, RunWritten, same-lengths, Appendable, Appended}
 
 -- At the loop's head, the pieces ps still to come; the lists were lent as `before`.
 pub record Progress (n : ℕ) (whole : List Block) (ps : List Piece) (before now : BlockList) (p : Pending) : Type 0 where
-  pub room : Room n p now
+  pub writable : Writable n p now
   pub same : SameLengths now before
   pub done : List Block
   pub counted : p .count ≡ length done
@@ -27,7 +28,7 @@ module _ {n : ℕ} {before : BlockList} (small : n ≤ 8) (enough : RoomFor (4 ^
   pub progress-none : (ps : List Piece) → span ps ≡ 4 ^ n → Progress n (written n ps) ps before before (pendingAt 0 0 0 0)
   unfolding written
   progress-none ps long = record {
-    room = record { small = small; ordered = omega arith; inside = omega arith; few = omega arith; room = enough };
+    writable = record { small = small; ordered = omega arith; inside = omega arith; few = omega arith; room = enough };
     same = record { for-codes = refl; for-levels = refl; for-colours = refl };
     done = [];
     counted = refl;
@@ -37,28 +38,28 @@ module _ {n : ℕ} {before : BlockList} (small : n ≤ 8) (enough : RoomFor (4 ^
   }
 
 module _ {n : ℕ} {whole : List Block} {before now : BlockList} {p : Pending} where
-  -- The next piece has room.
-  pub progress-fits : {a : Piece} {ps : List Piece} → Progress n whole (a ∷ ps) before now p → Fits n p (a .size) now
+  -- The next piece can be appended.
+  pub progress-appendable : {a : Piece} {ps : List Piece} → Progress n whole (a ∷ ps) before now p → 0 < a .size → Appendable n p (a .size) now
   unfolding span
-  progress-fits i = record { room = i .room; next = omega (arith, i .image) }
+  progress-appendable i some = record { writable = i .writable; some = some; inside = omega (arith, i .image) }
 
   -- One piece more.
   pub progress-more : {a : Piece} {ps : List Piece} {after : BlockList} {q : Pending} → Progress n whole (a ∷ ps) before now p → Appended n p a now after q
       → Progress n whole ps before after q
   unfolding span
   progress-more {a} {ps} {after} {q} i f =
-      let fits = next-room n (runOf p) a (p .count) (i .room .ordered) (i .room .few) in
+      let fits = next-room n (runOf p) a (p .count) (i .writable .ordered) (i .writable .few) in
       let end : next (runOf p) a .to ≡ p .to + a .size = next-end n (runOf p) a in
       let inside : next (runOf p) a .to ≤ 4 ^ n = omega (arith, i .image) in
       let same : SameLengths after now =
-      length-stored (p .count) (ended n (runOf p) a) now after (f .lists) (fewer (omega (arith, fits)) (i .room .room)) in
+      length-stored (p .count) (ended n (runOf p) a) now after (f .lists) (room-for-fewer (omega (arith, fits)) (i .writable .room)) in
       subst (λ (r : Pending). Progress n whole ps before after r) (sym (f .answer)) (record {
-        room = record {
-          small = i .room .small;
+        writable = record {
+          small = i .writable .small;
           ordered = fits .1;
           inside = inside;
           few = fits .0;
-          room = room-again same (i .room .room);
+          room = room-again same (i .writable .room);
         };
         same = same-again same (i .same);
         done = i .done ++ ended n (runOf p) a;
@@ -75,8 +76,8 @@ module _ {n : ℕ} {whole : List Block} {before now : BlockList} {p : Pending} w
   pub progress-few : {ps : List Piece} {after : BlockList} {count : ℕ} → Progress n whole ps before now p → RunWritten n p now after count
       → (count ≤ 4 ^ n) × SameLengths after before
   progress-few i f = (
-    omega (arith, f .answer, length-squares n (p .from) (p .to) (p .colour), i .room .few, i .room .ordered, i .room .inside),
-    same-again (same-lengths (i .room) f) (i .same),
+    omega (arith, f .answer, length-squares n (p .from) (p .to) (p .colour), i .writable .few, i .writable .ordered, i .writable .inside),
+    same-again (same-lengths (i .writable) f) (i .same),
   )
 
   -- After the last piece the last run is written: the whole is counted and stands in the lists.

@@ -10,10 +10,11 @@ use Rattle.quadtree.specs.Blocks.{Block}
 use Rattle.quadtree.specs.Painting.{block}
 use Rattle.runs.specs.Squares.{levelIn, squares, level-ends, level-in-image, squares-end, squares-more}
 use Rattle.runs.specs.Written.{squaresOf}
-use Rattle.runs.specs.Stored.{BlockList, listOf, stored, SameLengths, stored-none, stored-one}
+use Rattle.runs.specs.BlockLists.{BlockList, listOf, SameLengths, room-for-fewer, room-again, RoomFor}
+use Rattle.runs.specs.Stored.{stored, stored-none, stored-one}
 use Rattle.appending.specs.declared.Pending.{Pending}
 use Rattle.appending.specs.Levels.{RunIn}
-use Rattle.appending.specs.Appended.{runOf, Room, RunWritten}
+use Rattle.appending.specs.Appended.{runOf, Writable, RunWritten}
 
 -- The squares written and those from the code q on are all of the run's; `at` blocks are written in all.
 pub record Writing (n : ℕ) (p : Pending) (before now : BlockList) (at q : ℕ) : Type 0 where
@@ -32,15 +33,13 @@ pub record Turn (p : Pending) (now : BlockList) (at q l w : ℕ) : Type 0 where
   pub fits : q + w ≤ p .to
   pub grows : 0 < w
   pub small : p .to ≤ 65536
-  pub in-codes : at < length (now .codes)
-  pub in-levels : at < length (now .levels)
-  pub in-colours : at < length (now .colours)
+  pub room : RoomFor (p .to) now
 
-module _ {n : ℕ} {p : Pending} {before : BlockList} (room : Room n p before) where
+module _ {n : ℕ} {p : Pending} {before : BlockList} (h : Writable n p before) where
   pub writing-none : Writing n p before before (p .count) (p .from)
   writing-none = record {
-    ordered = room .ordered;
-    few = room .few;
+    ordered = h .ordered;
+    few = h .few;
     same = record { for-codes = refl; for-levels = refl; for-colours = refl };
     done = [];
     counted = omega arith;
@@ -51,21 +50,19 @@ module _ {n : ℕ} {p : Pending} {before : BlockList} (room : Room n p before) w
   module _ {now : BlockList} {at q : ℕ} (i : Writing n p before now at q) where
     module _ (more : q < p .to) where
       pub square-in-run : RunIn n q (p .to)
-      square-in-run = record { small = room .small; some = more; inside = room .inside }
+      square-in-run = record { small = h .small; some = more; inside = h .inside }
 
       pub turn : {l w : ℕ} → l ≡ levelIn n q (p .to) → w ≡ pixelsOf l → Turn p now at q l w
       turn {l} {w} e f =
-          let low : l ≤ 8 = omega (arith, e, level-in-image n q (p .to) more (room .inside), room .small) in
+          let low : l ≤ 8 = omega (arith, e, level-in-image n q (p .to) more (h .inside), h .small) in
           let worth : w ≡ 4 ^ l = f ∙ pixels-are-power l (omega arith) in
           record {
             low = low;
             worth = worth;
             fits = omega (arith, worth, ap (λ (k : ℕ). 4 ^ k) e, level-ends n q (p .to) more);
             grows = omega (arith, worth, pow4-pos l);
-            small = omega (arith, room .inside, pow4-mono (room .small));
-            in-codes = omega (arith, i .few, room .inside, room .room .in-codes, i .same .for-codes);
-            in-levels = omega (arith, i .few, room .inside, room .room .in-levels, i .same .for-levels);
-            in-colours = omega (arith, i .few, room .inside, room .room .in-colours, i .same .for-colours);
+            small = omega (arith, h .inside, pow4-mono (h .small));
+            room = room-for-fewer (h .inside) (room-again (i .same) (h .room));
           }
 
       pub writing-more : {l w : ℕ} → l ≡ levelIn n q (p .to) → w ≡ pixelsOf l
@@ -91,8 +88,7 @@ module _ {n : ℕ} {p : Pending} {before : BlockList} (room : Room n p before) w
                 ∙ ap (λ (s : List Block). i .done ++ s) (sym (squares-more n q (p .to) v more))
                 ∙ i .sum;
             lists =
-                stored-one (p .count) (i .done) before now at q l v (i .lists) (i .counted) (omega (arith, t .in-codes, i .same .for-codes))
-                (omega (arith, t .in-levels, i .same .for-levels)) (omega (arith, t .in-colours, i .same .for-colours));
+                stored-one (p .count) (i .done) before now at q l v (i .lists) (i .counted) (room-for-fewer (omega (arith, i .few, h .inside)) (h .room));
           }
 
     pub run-written : p .to ≤ q → RunWritten n p before now at

@@ -3,9 +3,9 @@
 ghost use mathlib.Core.Path.{_≡_};
 ghost use Rattle.runs.specs.Pieces.{piece};
 ghost use Rattle.runs.specs.Squares.{levelIn};
-ghost use Rattle.runs.specs.Stored.{listOf};
+ghost use Rattle.runs.specs.BlockLists.{listOf};
 ghost use Rattle.appending.specs.Levels.{RunIn};
-ghost use Rattle.appending.specs.Appended.{Room, RunWritten, Fits, Appended};
+ghost use Rattle.appending.specs.Appended.{Writable, RunWritten, Appendable, Appended};
 
 // The pending run, whose pixels have the codes from `from` to before `to`, and how many blocks are written before it.
 pub struct Pending {
@@ -41,7 +41,7 @@ pub fn write_run(
     levels: &mut [u8],
     colours: &mut [u16],
 ) -> usize
-    requires { ⌜ Room n pending (listOf (now codes) (now levels) (now colours)) ⌝ }
+    requires { ⌜ Writable n pending (listOf (now codes) (now levels) (now colours)) ⌝ }
     ensures { λ r. ⌜ RunWritten n pending
         (listOf (now (codes .entry)) (now (levels .entry)) (now (colours .entry)))
         (listOf (now (codes .exit)) (now (levels .exit)) (now (colours .exit))) r ⌝ }
@@ -69,14 +69,11 @@ pub fn append(
     levels: &mut [u8],
     colours: &mut [u16],
 ) -> Pending
-    requires { ⌜ Fits n pending size (listOf (now codes) (now levels) (now colours)) ⌝ }
+    requires { ⌜ Appendable n pending size (listOf (now codes) (now levels) (now colours)) ⌝ }
     ensures { λ r. ⌜ Appended n pending (piece size colour)
         (listOf (now (codes .entry)) (now (levels .entry)) (now (colours .entry)))
         (listOf (now (codes .exit)) (now (levels .exit)) (now (colours .exit))) r ⌝ }
 {
-    if size == 0 {
-        return pending;
-    }
     if colour == pending.colour {
         return Pending {
             from: pending.from,

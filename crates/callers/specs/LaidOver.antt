@@ -3,19 +3,20 @@ use mathlib.Core.Path.{_≡_, sym, ap, ap₂, _∙_, subst}
 use mathlib.Core.List.{List}
 use Prim.Native.Nat.{ℕ, _*_, _/_, _%_, _^_, _≤_, _<_, max}
 use native.Mathlib.Omega.{arith}
-use lib.ListN.{length, getD, length-take}
+use lib.ListN.{length, getD, take, length-take}
 use lib.Seq.{getD-take}
 use Rattle.sequences.specs.Ranges.{tabulate}
 use Rattle.interleaving.specs.Codes.{code}
-use Rattle.quadtree.specs.Number.{number}
 use Rattle.quadtree.specs.Orders.{in-rows-at}
 use Rattle.answers.specs.declared.Written.{Written}
-use Rattle.runs.specs.Stored.{BlockList}
+use Rattle.runs.specs.BlockLists.{BlockList, blocksOf, imageOf, numberOf}
 use Rattle.overlaying.specs.Larger.{larger}
-use Rattle.overlaying.specs.Promise.{blocksOf, imageOf, numberOf, Overlay}
+use Rattle.overlaying.specs.Promise.{Overlay}
 use Rattle.overlaying.specs.Callers.{resultOf, accepted-only, result-accepted, result-paints-larger, each-pixel-larger}
 use Rattle.painting.specs.Promise.{ToRaster}
 use Rattle.painting.specs.Callers.{painted}
+use Rattle.merging.specs.Promise.{FromRaster}
+use Rattle.rasters.specs.RoundTrip.{blocks-there-and-back}
 use Rattle.components.specs.Numbered.{ByLeastCodes}
 use Rattle.links.specs.Image.{imageOutlines}
 use Rattle.regions.specs.declared.Numbered.{Numbered}
@@ -25,13 +26,9 @@ use Rattle.tracing.specs.declared.Traced.{Traced}
 use Rattle.tracing.specs.Tracing.{Lent, outlinesOf, Tracing}
 use Rattle.callers.specs.Demand3.{heldAt, AtExit, not-refused, accepted-at-exit}
 
--- Blocks to raster, for a block list as one.
-abbrev pub RasterOf : ℕ → BlockList → List ℕ → List ℕ → Written → Type 0
-RasterOf n a old raster s = ToRaster n (a .codes) (a .levels) (a .colours) old raster s
-
 -- The colour at the place i of the raster of an accepted list.
-pixel-of-raster : {n : ℕ} {a : BlockList} {old raster : List ℕ} {s : Written} → numberOf n a ≡ 0 → 4 ^ n ≤ length old → RasterOf n a old raster s → (i : ℕ) → i < 4 ^ n
-    → getD raster i 0 ≡ getD (imageOf a) (code n (i % 2 ^ n) (i / 2 ^ n)) 0
+pixel-of-raster : {n : ℕ} {a : BlockList} {old raster : List ℕ} {s : Written} → numberOf n a ≡ 0 → 4 ^ n ≤ length old
+    → ToRaster n (a .codes) (a .levels) (a .colours) old raster s → (i : ℕ) → i < 4 ^ n → getD raster i 0 ≡ getD (imageOf a) (code n (i % 2 ^ n) (i / 2 ^ n)) 0
 pixel-of-raster {n} {a} {old} {raster} {s} e room q i h =
     let done = painted e room q in
     sym (getD-take (s .count) raster i 0 (omega (arith, done .1)))
@@ -42,7 +39,8 @@ pixel-of-raster {n} {a} {old} {raster} {s} e room q i h =
 -- of the two lists.
 pub raster-of-larger : {n : ℕ} {a b before after : BlockList} {r : Written} → Overlay n a b before after r → r .number ≡ 0
     → {old₀ raster₀ old₁ raster₁ old₂ raster₂ : List ℕ} {s₀ s₁ s₂ : Written} → 4 ^ n ≤ length old₀ → 4 ^ n ≤ length old₁ → 4 ^ n ≤ length old₂
-    → RasterOf n (resultOf after r) old₀ raster₀ s₀ → RasterOf n a old₁ raster₁ s₁ → RasterOf n b old₂ raster₂ s₂
+    → ToRaster n (resultOf after r .codes) (resultOf after r .levels) (resultOf after r .colours) old₀ raster₀ s₀
+    → ToRaster n (a .codes) (a .levels) (a .colours) old₁ raster₁ s₁ → ToRaster n (b .codes) (b .levels) (b .colours) old₂ raster₂ s₂
     → (i : ℕ) → i < 4 ^ n → getD raster₀ i 0 ≡ max (getD raster₁ i 0) (getD raster₂ i 0)
 raster-of-larger {n} {a} {b} {before} {after} {r} p ok room₀ room₁ room₂ q₀ q₁ q₂ i h =
     let both = accepted-only p ok in
@@ -50,13 +48,21 @@ raster-of-larger {n} {a} {b} {before} {after} {r} p ok room₀ room₁ room₂ q
     ∙ each-pixel-larger p ok (code n (i % 2 ^ n) (i / 2 ^ n))
     ∙ sym (ap₂ (λ (x y : ℕ). max x y) (pixel-of-raster (both .0) room₁ q₁ i h) (pixel-of-raster (both .1) room₂ q₂ i h))
 
--- What the numbering and the tracing of a result say: all that they say of any list, and they say it of the image px.
+-- Demand 2 of rasters and blocks: that raster becomes the result again.
+pub result-there-and-back : {n : ℕ} {a b before after : BlockList} {r : Written} → Overlay n a b before after r → r .number ≡ 0
+    → {old raster : List ℕ} {s : Written} → 4 ^ n ≤ length old → ToRaster n (resultOf after r .codes) (resultOf after r .levels) (resultOf after r .colours) old raster s
+    → {cs₀ ls₀ ks₀ cs₁ ls₁ ks₁ : List ℕ} {w : Written} → 4 ^ n ≤ length cs₀ → 4 ^ n ≤ length ls₀ → 4 ^ n ≤ length ks₀
+    → FromRaster n (take (s .count) raster) cs₀ ls₀ ks₀ cs₁ ls₁ ks₁ w
+    → (w .number ≡ 0) × (w .count ≡ length (resultOf after r .codes)) × (take (w .count) cs₁ ≡ resultOf after r .codes)
+    × (take (w .count) ls₁ ≡ resultOf after r .levels) × (take (w .count) ks₁ ≡ resultOf after r .colours)
+result-there-and-back p ok room q for-codes for-levels for-colours f = blocks-there-and-back (result-accepted p ok) room q for-codes for-levels for-colours f
+
+-- What demand 2 says of the numbering of a result, and demand 3 of its tracing; both speak of the image px.
 pub record AsAnyOther (n : ℕ) (px : List ℕ) (result : BlockList) (labels₁ : List ℕ) (s : Numbered) (lent left : Lent) (t : Traced) : Type 0 where
   pub image : imageOf result ≡ px
-  -- demand 2
   pub numbered : s .number ≡ 0
   pub by-least-codes : ByLeastCodes n px (tabulate (4 ^ n) (labelOfPixel (blocksOf result) labels₁)) (s .regions)
-  -- the outline listing, and demand 3
+  -- the outline listing, and all of demand 3
   pub traced : t .number ≡ 0
   pub outlines : heldAt left t ≡ imageOutlines n px
   pub at-exit : AtExit n (result .codes) (result .levels) (result .colours) lent left t

@@ -1,22 +1,23 @@
 -- What a caller knows, from the promise, about the answer and the lists at exit.
-use mathlib.Core.Path.{_≡_, sym, ap, ap₂, _∙_}
+use mathlib.Core.Path.{_≡_, refl, sym, ap, ap₂, _∙_}
+use mathlib.Core.Bool.{Bool, true, false}
 use mathlib.Core.List.{List, [], map}
-use Prim.Native.Nat.{ℕ, _^_, _≤_, _<_, max, min}
+use Prim.Native.Nat.{ℕ, _^_, _≤_, _<_, max}
 use native.Mathlib.Omega.{arith}
 use lib.ListN.{length, getD, take, length-map}
 use Rattle.sequences.specs.Cases.{first, when, first-zero, when-yes, when-no, when-zero, written-accepted, written-refused}
 use Rattle.sequences.specs.Over.{over, over-none, over-beyond, take-over}
 use Rattle.quadtree.specs.Blocks.{Block, paint}
 use Rattle.quadtree.specs.Fields.{codes, levels, colours, blocks-of-fields}
+use Rattle.quadtree.specs.Number.{numberWith}
 use Rattle.quadtree.specs.Painting.{paint-quadtree}
 use Rattle.quadtree.specs.Accepted.{number-zero, quadtree-accepted, one-accepted-list}
 use Rattle.blocks.specs.Checking.{number-large}
 use Rattle.answers.specs.declared.Written.{Written}
-use Rattle.runs.specs.Stored.{BlockList, listOf, RoomFor}
+use Rattle.runs.specs.BlockLists.{BlockList, listOf, imageOf, numberOf, Covering, accepted-covers, RoomFor, tooShort, none-short, room-unless-short}
 use Rattle.overlaying.specs.Larger.{larger, larger-at}
-use Rattle.overlaying.specs.Promise.{blocksOf, imageOf, numberOf, overlaid, tooShort, overlayNumber, blocksWritten, Overlay, none-short, some-short, room-of, number-of-first, number-of-second, number-of-lent}
-use Rattle.overlaying.specs.Pass.{accepted-covers}
-use Rattle.overlaying.specs.SharedPainted.{length-covering, length-of-both}
+use Rattle.overlaying.specs.Promise.{overlaid, overlayNumber, blocksWritten, Overlay, number-of-first, number-of-second, number-of-lent}
+use Rattle.overlaying.specs.SharedPainted.{same-size, length-of-larger}
 
 -- The list that was written: the three lists at exit up to the count.
 abbrev pub resultOf : BlockList → Written → BlockList
@@ -39,20 +40,23 @@ module _ {n : ℕ} {a b before after : BlockList} {r : Written} (p : Overlay n a
   pub second-list-then : numberOf n a ≡ 0 → 0 < numberOf n b → r .number ≡ numberOf n b
   second-list-then e h = number-answered ∙ number-of-second n a b before e h
 
-  pub eight-comes-last : numberOf n a ≡ 0 → numberOf n b ≡ 0
-      → min (length (before .codes)) (min (length (before .levels)) (length (before .colours))) < 4 ^ n → r .number ≡ 8
-  eight-comes-last e f h = number-answered ∙ number-of-lent n a b before e f ∙ when-yes (tooShort n before) 8 (some-short n before h)
+  pub eight-comes-last : numberOf n a ≡ 0 → numberOf n b ≡ 0 → (RoomFor (4 ^ n) before → ⊥) → r .number ≡ 8
+  eight-comes-last e f short = number-answered ∙ number-of-lent n a b before e f ∙ pick (tooShort (4 ^ n) before) refl
+    where
+      pick : (t : Bool) → tooShort (4 ^ n) before ≡ t → when (tooShort (4 ^ n) before) 8 ≡ 8
+      pick true h = when-yes (tooShort (4 ^ n) before) 8 h
+      pick false h = absurd (short (room-unless-short (4 ^ n) before h))
 
   -- Two accepted lists with room for the result are never refused, and nothing else is accepted.
   pub not-refused : numberOf n a ≡ 0 → numberOf n b ≡ 0 → RoomFor (4 ^ n) before → r .number ≡ 0
-  not-refused e f room = number-answered ∙ number-of-lent n a b before e f ∙ when-no (tooShort n before) 8 (none-short n before room)
+  not-refused e f room = number-answered ∙ number-of-lent n a b before e f ∙ when-no (tooShort (4 ^ n) before) 8 (none-short (4 ^ n) before room)
 
   pub accepted-only : r .number ≡ 0 → (numberOf n a ≡ 0) × (numberOf n b ≡ 0) × RoomFor (4 ^ n) before
-  unfolding overlayNumber
+  unfolding overlayNumber numberWith
   accepted-only ok =
-      let one = first-zero (numberOf n a) (first (numberOf n b) (when (tooShort n before) 8)) (sym number-answered ∙ ok) in
-      let two = first-zero (numberOf n b) (when (tooShort n before) 8) (one .1) in
-      (one .0, two .0, room-of n before (when-zero (tooShort n before) 8 (omega arith) (two .1)))
+      let one = first-zero (numberOf n a) (first (numberOf n b) (when (tooShort (4 ^ n) before) 8)) (sym number-answered ∙ ok) in
+      let two = first-zero (numberOf n b) (when (tooShort (4 ^ n) before) 8) (one .1) in
+      (one .0, two .0, room-unless-short (4 ^ n) before (when-zero (tooShort (4 ^ n) before) 8 (omega arith) (two .1)))
 
   -- After a refusal the count is 0 and all lists are as they were.
   pub refusal-leaves-all : 0 < r .number → (r .count ≡ 0) × (after ≡ before)
@@ -72,6 +76,12 @@ module _ {n : ℕ} {a b before after : BlockList} {r : Written} (p : Overlay n a
   module _ (ok : r .number ≡ 0) where
     zero-number : overlayNumber n a b before ≡ 0
     zero-number = sym number-answered ∙ ok
+
+    first-covers : Covering n a
+    first-covers = accepted-covers n a (accepted-only ok .0)
+
+    second-covers : Covering n b
+    second-covers = accepted-covers n b (accepted-only ok .1)
 
     all-written : blocksWritten n a b before ≡ overlaid n a b
     unfolding blocksWritten
@@ -120,18 +130,13 @@ module _ {n : ℕ} {a b before after : BlockList} {r : Written} (p : Overlay n a
     pub result-paints-larger : imageOf (resultOf after r) ≡ larger (imageOf a) (imageOf b)
     unfolding overlaid
     result-paints-larger =
-        let f = accepted-covers n a (accepted-only ok .0) in
-        let g = accepted-covers n b (accepted-only ok .1) in
         ap imageOf result-is-merged
         ∙ ap paint (blocks-of-fields (overlaid n a b))
-        ∙ paint-quadtree n (larger (imageOf a) (imageOf b)) (length-of-both n (blocksOf a) (blocksOf b) (f .covers) (g .covers))
+        ∙ paint-quadtree n (larger (imageOf a) (imageOf b)) (length-of-larger n a b first-covers second-covers)
 
     pub each-pixel-larger : (c : ℕ) → getD (imageOf (resultOf after r)) c 0 ≡ max (getD (imageOf a) c 0) (getD (imageOf b) c 0)
     each-pixel-larger c =
-        let f = accepted-covers n a (accepted-only ok .0) in
-        let g = accepted-covers n b (accepted-only ok .1) in
-        ap (λ (px : List ℕ). getD px c 0) result-paints-larger
-        ∙ larger-at (imageOf a) (imageOf b) c (length-covering n (blocksOf a) (f .covers) ∙ sym (length-covering n (blocksOf b) (g .covers)))
+        ap (λ (px : List ℕ). getD px c 0) result-paints-larger ∙ larger-at (imageOf a) (imageOf b) c (same-size n a b first-covers second-covers)
 
     -- "the merged list": no other accepted list has the larger colours.
     pub no-other-list : (other : BlockList) → numberOf n other ≡ 0 → imageOf other ≡ larger (imageOf a) (imageOf b) → resultOf after r ≡ other

@@ -11,26 +11,20 @@ use lib.Dec.{ltb}
 use borrow.Author.Tests.{lt-ltb, le-ltb}
 use Rattle.sequences.specs.Powers.{pow4-mono}
 use Rattle.quadtree.specs.Blocks.{Block}
-use Rattle.quadtree.specs.Covering.{Covers, covers-of-zero}
-use Rattle.quadtree.specs.Accepted.{number-zero}
-use Rattle.quadtree.specs.Lists.{EqualLengths, blockOf, length-blocks, rest-of-blocks}
+use Rattle.quadtree.specs.Lists.{blockOf, length-blocks, rest-of-blocks}
 use Rattle.runs.specs.Pieces.{Piece, piece}
 use Rattle.runs.specs.Written.{next-end}
-use Rattle.runs.specs.Stored.{BlockList, RoomFor, SameLengths, stored, fewer, length-stored}
+use Rattle.runs.specs.BlockLists.{BlockList, blocksOf, Covering, RoomFor, SameLengths, room-for-fewer}
+use Rattle.runs.specs.Stored.{stored, length-stored}
 use Rattle.appending.specs.declared.Pending.{Pending}
-use Rattle.appending.specs.Appended.{runOf, pendingAt, RunWritten, Fits, Appended}
-use Rattle.appending.specs.Progress.{Progress, progress-none, progress-fits, progress-more, progress-few, progress-done}
-use Rattle.overlaying.specs.Promise.{blocksOf, numberOf, overlaid}
+use Rattle.appending.specs.Appended.{runOf, pendingAt, RunWritten, Appendable, Appended}
+use Rattle.appending.specs.Progress.{Progress, progress-none, progress-appendable, progress-more, progress-few, progress-done}
+use Rattle.overlaying.specs.Promise.{overlaid}
 use Rattle.overlaying.specs.Shared.{end, onward, onward-stays, onward-leaves, nearer, shared, shared-more, shared-end}
 use Rattle.overlaying.specs.Cursors.{At, Here, here, at-start, at-onward, apart}
 use Rattle.overlaying.specs.SharedPainted.{span-shared, shared-written}
 
--- A block list that covers its image.
-pub record Covering (n : ℕ) (a : BlockList) : Type 0 where
-  pub long : EqualLengths (a .codes) (a .levels) (a .colours)
-  pub covers : Covers n 0 (blocksOf a)
-
--- Two such lists of one n, and three lists with room for what is written.
+-- Two lists of one n that cover their images, and three lists with room for what is written.
 pub record Overlayable (n : ℕ) (a b lent : BlockList) : Type 0 where
   pub small : n ≤ 8
   pub first : Covering n a
@@ -51,20 +45,12 @@ pub record Passing (n : ℕ) (a b before now : BlockList) (p : Pending) (i j : �
   pub progress : Progress n (overlaid n a b) (shared (p .to) (drop i (blocksOf a)) (drop j (blocksOf b))) before now p
 
 -- Where a cursor goes on to, by its index.
-abbrev pub indexOn : ℕ → ℕ → ℕ → ℕ
-indexOn i ending done = cond (ltb done ending) i (i + 1)
+abbrev pub nextIndex : ℕ → ℕ → ℕ → ℕ
+nextIndex i ending done = cond (ltb done ending) i (i + 1)
 
 -- The block at a place of a list.
 abbrev pub blockIn : BlockList → ℕ → Block
 blockIn a i = blockOf (a .codes) (a .levels) (a .colours) i
-
-pub accepted-covers : (n : ℕ) (a : BlockList) → numberOf n a ≡ 0 → Covering n a
-accepted-covers n a h =
-    let p = number-zero n (a .codes) (a .levels) (a .colours) h in
-    record {
-      long = record { levels-too = p .equal-levels; colours-too = p .equal-colours };
-      covers = covers-of-zero n 0 (blocksOf a) (omega arith) (p .covering);
-    }
 
 module _ (n : ℕ) (a : BlockList) (f : Covering n a) where
   rest : (i : ℕ) → i < length (a .codes) → drop i (blocksOf a) ≡ blockIn a i ∷ drop (suc i) (blocksOf a)
@@ -74,10 +60,10 @@ module _ (n : ℕ) (a : BlockList) (f : Covering n a) where
   no-rest i h = drop-of-length-le (blocksOf a) {i = i} (omega (arith, length-blocks (a .codes) (a .levels) (a .colours) (f .long)))
 
   -- A step of the cursor is a step of its index.
-  step-on : (i d : ℕ) → i < length (a .codes) → onward d (drop i (blocksOf a)) ≡ drop (indexOn i (end (blockIn a i)) d) (blocksOf a)
+  step-on : (i d : ℕ) → i < length (a .codes) → onward d (drop i (blocksOf a)) ≡ drop (nextIndex i (end (blockIn a i)) d) (blocksOf a)
   step-on i d h = pick (decLt d (end (blockIn a i)))
     where
-      pick : Dec (d < end (blockIn a i)) → onward d (drop i (blocksOf a)) ≡ drop (indexOn i (end (blockIn a i)) d) (blocksOf a)
+      pick : Dec (d < end (blockIn a i)) → onward d (drop i (blocksOf a)) ≡ drop (nextIndex i (end (blockIn a i)) d) (blocksOf a)
       pick (yes g) =
           ap (onward d) (rest i h) ∙ onward-stays d (blockIn a i) (drop (suc i) (blocksOf a)) g ∙ sym (rest i h)
           ∙ ap (λ (t : Bool). drop (cond t i (i + 1)) (blocksOf a)) (sym (lt-ltb d (end (blockIn a i)) g))
@@ -85,7 +71,7 @@ module _ (n : ℕ) (a : BlockList) (f : Covering n a) where
           ap (onward d) (rest i h) ∙ onward-leaves d (blockIn a i) (drop (suc i) (blocksOf a)) (omega arith) ∙ ap (λ (k : ℕ). drop k (blocksOf a)) (sym (add-one i))
           ∙ ap (λ (t : Bool). drop (cond t i (i + 1)) (blocksOf a)) (sym (le-ltb d (end (blockIn a i)) (omega arith)))
 
--- A list with a cursor before its end, where another list has one at the same code.
+-- Where one cursor stands before its list's end, so does the other at the same code.
 index-below : (n c : ℕ) (a b : BlockList) (f : Covering n a) (g : Covering n b) (i j : ℕ) → At n c (drop i (blocksOf a)) → At n c (drop j (blocksOf b))
     → i < length (a .codes) → j < length (b .codes)
 index-below n c a b f g i j p q h = pick (decLt j (length (b .codes)))
@@ -95,16 +81,16 @@ index-below n c a b f g i j p q h = pick (decLt j (length (b .codes)))
     pick (no k) =
         absurd (apart n c (blockIn a i) (drop (suc i) (blocksOf a)) (subst (At n c) (no-rest n b g j (omega arith)) q) (subst (At n c) (rest n a f i h) p))
 
--- The block at a place that a cursor has reached.
-pub record BlockHere (n : ℕ) (a : BlockList) (c i : ℕ) : Type 0 where
+-- What is known of the block at the place i once a cursor has reached it.
+pub record Reached (a : BlockList) (i : ℕ) : Type 0 where
   pub in-levels : i < length (a .levels)
   pub in-colours : i < length (a .colours)
   pub small : getD (a .codes) i 0 < 65536
   pub low : getD (a .levels) i 0 ≤ 8
 
-block-here : (n : ℕ) (a : BlockList) (c i : ℕ) → n ≤ 8 → Covering n a → i < length (a .codes) → Here n c (blockIn a i) → BlockHere n a c i
+reached : (n : ℕ) (a : BlockList) (c i : ℕ) → n ≤ 8 → Covering n a → i < length (a .codes) → Here n c (blockIn a i) → Reached a i
 unfolding blockOf
-block-here n a c i small f inside h = record {
+reached n a c i small f inside h = record {
   in-levels = omega (arith, f .long .levels-too);
   in-colours = omega (arith, f .long .levels-too, f .long .colours-too);
   small = omega (arith, h .from, h .within, h .in-image, pow4-mono small);
@@ -119,8 +105,8 @@ module _ {n : ℕ} {a b before : BlockList} (o : Overlayable n a b before) where
     second = at-start n 0 (blocksOf b) (o .second .covers);
     progress =
         subst (λ whole. Progress n whole (shared 0 (blocksOf a) (blocksOf b)) before before (pendingAt 0 0 0 0))
-        (shared-written n (blocksOf a) (blocksOf b) (o .first .covers) (o .second .covers) (o .small))
-        (progress-none (o .small) (o .room) (shared 0 (blocksOf a) (blocksOf b)) (span-shared n (blocksOf a) (blocksOf b) (o .first .covers) (o .second .covers)));
+        (shared-written n a b (o .first) (o .second) (o .small))
+        (progress-none (o .small) (o .room) (shared 0 (blocksOf a) (blocksOf b)) (span-shared n a b (o .first) (o .second)));
   }
 
   module _ {now : BlockList} {p : Pending} {i j : ℕ} (m : Passing n a b before now p i j) where
@@ -140,11 +126,11 @@ module _ {n : ℕ} {a b before : BlockList} (o : Overlayable n a b before) where
       here-second : Here n (p .to) (blockIn b j)
       here-second = here n (p .to) (blockIn b j) (drop (suc j) (blocksOf b)) at-second
 
-      pub first-here : BlockHere n a (p .to) i
-      first-here = block-here n a (p .to) i (o .small) (o .first) more here-first
+      pub first-reached : Reached a i
+      first-reached = reached n a (p .to) i (o .small) (o .first) more here-first
 
-      pub second-here : BlockHere n b (p .to) j
-      second-here = block-here n b (p .to) j (o .small) (o .second) in-second here-second
+      pub second-reached : Reached b j
+      second-reached = reached n b (p .to) j (o .small) (o .second) in-second here-second
 
       abbrev d : ℕ
       d = nearer (blockIn a i) (blockIn b j)
@@ -185,8 +171,9 @@ module _ {n : ℕ} {a b before : BlockList} (o : Overlayable n a b before) where
         pub done-on : (p .to < done) × (done ≤ 4 ^ n)
         done-on = (omega (arith, nearest, here-first, here-second), omega (arith, nearest, here-first, here-second))
 
-        pub piece-fits : Fits n p (done - p .to) now
-        piece-fits = subst (λ (x : ℕ). Fits n p (x - p .to) now) (sym nearest) (progress-fits advanced)
+        pub piece-appendable : Appendable n p (done - p .to) now
+        piece-appendable =
+            subst (λ (x : ℕ). Appendable n p (x - p .to) now) (sym nearest) (progress-appendable advanced (omega (arith, nearest, done-on)))
 
         -- The piece appended, and the larger colour.
         module _ {colour : ℕ} {after : BlockList} {q : Pending} (w : Appended n p (piece (done - p .to) colour) now after q) where
@@ -204,15 +191,15 @@ module _ {n : ℕ} {a b before : BlockList} (o : Overlayable n a b before) where
             appended = subst (λ (x : ℕ). Appended n p (piece (x - p .to) (max (blockIn a i .colour) (blockIn b j .colour))) now after q) nearest
                 (subst (λ (v : ℕ). Appended n p (piece (done - p .to) v) now after q) larger-colour w)
 
-            pub passing-more : {i′ j′ : ℕ} → i′ ≡ indexOn i end₁ done → j′ ≡ indexOn j end₂ done → Passing n a b before after q i′ j′
+            pub passing-more : {i′ j′ : ℕ} → i′ ≡ nextIndex i end₁ done → j′ ≡ nextIndex j end₂ done → Passing n a b before after q i′ j′
             passing-more {i′} {j′} ei ej =
                 let to : q .to ≡ d = end-on ∙ nearest in
                 let one : onward d (drop i (blocksOf a)) ≡ drop i′ (blocksOf a) =
                 step-on n a (o .first) i d more
-                ∙ ap₂ (λ (x y : ℕ). drop (indexOn i x y) (blocksOf a)) (sym first-end) (sym nearest) ∙ ap (λ (x : ℕ). drop x (blocksOf a)) (sym ei) in
+                ∙ ap₂ (λ (x y : ℕ). drop (nextIndex i x y) (blocksOf a)) (sym first-end) (sym nearest) ∙ ap (λ (x : ℕ). drop x (blocksOf a)) (sym ei) in
                 let two : onward d (drop j (blocksOf b)) ≡ drop j′ (blocksOf b) =
                 step-on n b (o .second) j d in-second
-                ∙ ap₂ (λ (x y : ℕ). drop (indexOn j x y) (blocksOf b)) (sym second-end) (sym nearest) ∙ ap (λ (x : ℕ). drop x (blocksOf b)) (sym ej) in
+                ∙ ap₂ (λ (x y : ℕ). drop (nextIndex j x y) (blocksOf b)) (sym second-end) (sym nearest) ∙ ap (λ (x : ℕ). drop x (blocksOf b)) (sym ej) in
                 record {
                   first =
                       subst (λ (x : ℕ). At n x (drop i′ (blocksOf a))) (sym to)
@@ -239,4 +226,4 @@ module _ {n : ℕ} {a b before : BlockList} (o : Overlayable n a b before) where
 -- The lists keep their lengths.
 pub all-lengths : {n : ℕ} {a b before after : BlockList} {count : ℕ} → RoomFor (4 ^ n) before → AllWritten n a b before after count → SameLengths after before
 all-lengths {n} {a} {b} {before} {after} room w =
-    length-stored 0 (overlaid n a b) before after (w .lists) (fewer (omega (arith, w .answer, w .few)) room)
+    length-stored 0 (overlaid n a b) before after (w .lists) (room-for-fewer (omega (arith, w .answer, w .few)) room)

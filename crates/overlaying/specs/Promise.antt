@@ -1,48 +1,31 @@
 -- What laying one block list over another promises: the answer, and the later content of each list that is written to.
 use mathlib.Core.Path.{_≡_, refl, sym, ap, _∙_}
-use mathlib.Core.Bool.{Bool, true, false, _||_, true≢false}
 use mathlib.Core.List.{List, [], _∷_}
 use Prim.Native.Nat.{ℕ, _^_, _<_, min}
-use native.Mathlib.Decide.{decLt}
 use native.Mathlib.Omega.{arith}
 use lib.ListN.{length}
-use lib.Dec.{ltb}
-use borrow.Author.Tests.{lt-ltb, le-ltb}
-use Rattle.sequences.specs.Cases.{first, when, ifAccepted, first-some, first-none, when-yes, when-no, or-right, written-accepted, written-refused}
+use Rattle.sequences.specs.Cases.{first, when, ifAccepted, first-some, first-none, when-yes, when-no, written-accepted, written-refused}
 use Rattle.sequences.specs.Over.{over, over-none}
 use Rattle.quadtree.specs.Blocks.{Block, blocks, paint}
 use Rattle.quadtree.specs.Fields.{codes, levels, colours}
 use Rattle.quadtree.specs.Quadtree.{quadtree}
-use Rattle.quadtree.specs.Number.{number}
+use Rattle.quadtree.specs.Number.{number, numberWith}
 use Rattle.quadtree.specs.Painting.{block}
 use Rattle.answers.specs.declared.Written.{Written}
-use Rattle.runs.specs.Stored.{BlockList, listOf, RoomFor, stored, stored-in-front}
+use Rattle.runs.specs.BlockLists.{BlockList, listOf, imageOf, numberOf, RoomFor, tooShort, none-short, least-short}
+use Rattle.runs.specs.Stored.{stored, stored-in-front}
 use Rattle.overlaying.specs.Larger.{larger}
-
--- The blocks of a block list, its image, and its number from 1 to 7.
-abbrev pub blocksOf : BlockList → List Block
-blocksOf a = blocks (a .codes) (a .levels) (a .colours)
-
-abbrev pub imageOf : BlockList → List ℕ
-imageOf a = paint (blocksOf a)
-
-abbrev pub numberOf : ℕ → BlockList → ℕ
-numberOf n a = number n (a .codes) (a .levels) (a .colours)
 
 -- "the merged list whose every pixel has the larger of the two colours" (document 02, request b).
 unfoldable pub overlaid : ℕ → BlockList → BlockList → List Block
 unfolding quadtree larger paint blocks
 overlaid n a b = quadtree n (larger (imageOf a) (imageOf b))
 
--- One of "three lists of 4^n" is shorter.
-unfoldable pub tooShort : ℕ → BlockList → Bool
-tooShort n lent = ltb (length (lent .codes)) (4 ^ n) || (ltb (length (lent .levels)) (4 ^ n) || ltb (length (lent .colours)) (4 ^ n))
-
 -- "Checks: 1, then 2 to 7 on the first list, 2 to 7 on the second, then 8 for three lists of 4^n" (document 02, request b). Both lists
 -- have one n, so 1 is met with the first.
 unfoldable pub overlayNumber : ℕ → BlockList → BlockList → BlockList → ℕ
-unfolding first when number tooShort
-overlayNumber n a b lent = first (numberOf n a) (first (numberOf n b) (when (tooShort n lent) 8))
+unfolding first number numberWith tooShort
+overlayNumber n a b lent = first (numberOf n a) (numberWith (tooShort (4 ^ n) lent) n (b .codes) (b .levels) (b .colours))
 
 -- The blocks written; none on a refusal.
 unfoldable pub blocksWritten : ℕ → BlockList → BlockList → BlockList → List Block
@@ -57,39 +40,6 @@ pub record Overlay (n : ℕ) (a b before after : BlockList) (r : Written) : Type
   pub in-colours : after .colours ≡ over (colours (blocksWritten n a b before)) (before .colours)
 
 -- ---- cause by cause
-
-module _ (n : ℕ) (lent : BlockList) where
-  pub some-short : min (length (lent .codes)) (min (length (lent .levels)) (length (lent .colours))) < 4 ^ n → tooShort n lent ≡ true
-  unfolding tooShort
-  some-short h = pick (decLt (length (lent .codes)) (4 ^ n)) (decLt (length (lent .levels)) (4 ^ n))
-    where
-      in-levels : Bool
-      in-levels = ltb (length (lent .levels)) (4 ^ n)
-
-      in-colours : Bool
-      in-colours = ltb (length (lent .colours)) (4 ^ n)
-
-      pick : Dec (length (lent .codes) < 4 ^ n) → Dec (length (lent .levels) < 4 ^ n)
-          → ltb (length (lent .codes)) (4 ^ n) || (ltb (length (lent .levels)) (4 ^ n) || ltb (length (lent .colours)) (4 ^ n)) ≡ true
-      pick (yes c) l = ap (λ (t : Bool). t || (in-levels || in-colours)) (lt-ltb (length (lent .codes)) (4 ^ n) c)
-      pick (no c) (yes l) =
-          or-right (ltb (length (lent .codes)) (4 ^ n)) (in-levels || in-colours)
-          (ap (λ (t : Bool). t || in-colours) (lt-ltb (length (lent .levels)) (4 ^ n) l))
-      pick (no c) (no l) =
-          or-right (ltb (length (lent .codes)) (4 ^ n)) (in-levels || in-colours)
-          (or-right in-levels in-colours (lt-ltb (length (lent .colours)) (4 ^ n) (omega arith)))
-
-  pub none-short : RoomFor (4 ^ n) lent → tooShort n lent ≡ false
-  unfolding tooShort
-  none-short room =
-      rw (le-ltb (length (lent .codes)) (4 ^ n) (room .in-codes), le-ltb (length (lent .levels)) (4 ^ n) (room .in-levels), le-ltb (length (lent .colours)) (4 ^ n) (room .in-colours)) refl
-
-  pub room-of : tooShort n lent ≡ false → RoomFor (4 ^ n) lent
-  room-of e = pick (decLt (min (length (lent .codes)) (min (length (lent .levels)) (length (lent .colours)))) (4 ^ n))
-    where
-      pick : Dec (min (length (lent .codes)) (min (length (lent .levels)) (length (lent .colours))) < 4 ^ n) → RoomFor (4 ^ n) lent
-      pick (yes h) = absurd (true≢false (sym (some-short h) ∙ e))
-      pick (no h) = record { in-codes = omega arith; in-levels = omega arith; in-colours = omega arith }
 
 module _ (n : ℕ) (a b lent : BlockList) where
   -- A refusal returns its number and leaves all lists.
@@ -106,38 +56,36 @@ module _ (n : ℕ) (a b lent : BlockList) where
 
   pub number-of-first : 0 < numberOf n a → overlayNumber n a b lent ≡ numberOf n a
   unfolding overlayNumber
-  number-of-first h = first-some (numberOf n a) (first (numberOf n b) (when (tooShort n lent) 8)) h
+  number-of-first h = first-some (numberOf n a) (numberWith (tooShort (4 ^ n) lent) n (b .codes) (b .levels) (b .colours)) h
 
   pub first-refused : {k : ℕ} → k ≡ numberOf n a → (k ≡ 0 → ⊥) → Overlay n a b lent lent (record { number = k; count = 0 })
   first-refused {k} e some = refused (omega arith) (e ∙ sym (number-of-first (omega (arith, e))))
 
-  module _ (first-none-of-it : numberOf n a ≡ 0) where
+  module _ (first-accepted : numberOf n a ≡ 0) where
+    past-first : overlayNumber n a b lent ≡ first (numberOf n b) (when (tooShort (4 ^ n) lent) 8)
+    unfolding overlayNumber numberWith
+    past-first = first-none (numberOf n a) (first (numberOf n b) (when (tooShort (4 ^ n) lent) 8)) first-accepted
+
     pub number-of-second : 0 < numberOf n b → overlayNumber n a b lent ≡ numberOf n b
-    unfolding overlayNumber
-    number-of-second h =
-        first-none (numberOf n a) (first (numberOf n b) (when (tooShort n lent) 8)) first-none-of-it
-        ∙ first-some (numberOf n b) (when (tooShort n lent) 8) h
+    number-of-second h = past-first ∙ first-some (numberOf n b) (when (tooShort (4 ^ n) lent) 8) h
 
     pub second-refused : {k : ℕ} → k ≡ numberOf n b → (k ≡ 0 → ⊥) → Overlay n a b lent lent (record { number = k; count = 0 })
     second-refused {k} e some = refused (omega arith) (e ∙ sym (number-of-second (omega (arith, e))))
 
-    module _ (second-none-of-it : numberOf n b ≡ 0) where
-      pub number-of-lent : overlayNumber n a b lent ≡ when (tooShort n lent) 8
-      unfolding overlayNumber
-      number-of-lent =
-          first-none (numberOf n a) (first (numberOf n b) (when (tooShort n lent) 8)) first-none-of-it
-          ∙ first-none (numberOf n b) (when (tooShort n lent) 8) second-none-of-it
+    module _ (second-accepted : numberOf n b ≡ 0) where
+      pub number-of-lent : overlayNumber n a b lent ≡ when (tooShort (4 ^ n) lent) 8
+      number-of-lent = past-first ∙ first-none (numberOf n b) (when (tooShort (4 ^ n) lent) 8) second-accepted
 
       pub one-short : (room : ℕ) → room ≡ min (length (lent .codes)) (min (length (lent .levels)) (length (lent .colours))) → room < 4 ^ n
           → Overlay n a b lent lent (record { number = 8; count = 0 })
-      one-short room e h = refused (omega arith) (sym (number-of-lent ∙ when-yes (tooShort n lent) 8 (some-short n lent (omega arith))))
+      one-short room e h = refused (omega arith) (sym (number-of-lent ∙ when-yes (tooShort (4 ^ n) lent) 8 (least-short (4 ^ n) lent (omega arith))))
 
       -- All blocks written.
       pub laid-over : {after : BlockList} {count : ℕ} → RoomFor (4 ^ n) lent → count ≡ length (overlaid n a b) → after ≡ stored 0 (overlaid n a b) lent
           → Overlay n a b lent after (record { number = 0; count = count })
       unfolding blocksWritten
       laid-over {after} {count} room counted lists =
-          let none : overlayNumber n a b lent ≡ 0 = number-of-lent ∙ when-no (tooShort n lent) 8 (none-short n lent room) in
+          let none : overlayNumber n a b lent ≡ 0 = number-of-lent ∙ when-no (tooShort (4 ^ n) lent) 8 (none-short (4 ^ n) lent room) in
           let all : blocksWritten n a b lent ≡ overlaid n a b = written-accepted (overlayNumber n a b lent) (overlaid n a b) none in
           let front = stored-in-front (overlaid n a b) lent after lists in
           record {

@@ -2,7 +2,7 @@
 use answers::Written;
 use pass::lay_over;
 use pass::least;
-ghost use Rattle.runs.specs.Stored.{listOf};
+ghost use Rattle.runs.specs.BlockLists.{listOf};
 ghost use Rattle.overlaying.specs.Promise.{Overlay};
 
 mod pass;
@@ -26,6 +26,8 @@ pub fn overlay(
         (listOf (now (codes .entry)) (now (levels .entry)) (now (colours .entry)))
         (listOf (now (codes .exit)) (now (levels .exit)) (now (colours .exit))) r ⌝ }
 {
+    let whole = location::pixels(n);
+    let room = least(codes.len(), least(levels.len(), colours.len()));
     let first = blocks::check(n, first_codes, first_levels, first_colours);
     if first != 0 {
         return Written {
@@ -34,8 +36,6 @@ pub fn overlay(
         };
     }
     let second = blocks::check(n, second_codes, second_levels, second_colours);
-    let whole = location::pixels(n);
-    let room = least(codes.len(), least(levels.len(), colours.len()));
     if second != 0 {
         return Written {
             number: second,

@@ -5,8 +5,8 @@ use appending::append;
 use appending::write_run;
 ghost use mathlib.Core.Path.{_≡_};
 ghost use Prim.Native.Nat.{_+_, _^_, _≤_, _<_, max, min};
-ghost use Rattle.runs.specs.Stored.{listOf};
-ghost use Rattle.overlaying.specs.Pass.{Overlayable, AllWritten, indexOn};
+ghost use Rattle.runs.specs.BlockLists.{listOf};
+ghost use Rattle.overlaying.specs.Pass.{Overlayable, AllWritten, nextIndex};
 
 // The smaller of two numbers.
 pub(crate) fn least(a: usize, b: usize) -> usize
@@ -16,7 +16,7 @@ pub(crate) fn least(a: usize, b: usize) -> usize
 }
 
 // The larger of two colours.
-fn larger(a: u16, b: u16) -> u16
+fn larger_colour(a: u16, b: u16) -> u16
     ensures { λ r. ⌜ r ≡ max a b ⌝ }
 {
     if a < b { b } else { a }
@@ -31,9 +31,9 @@ fn end_of(code: u32, level: u8) -> usize
 }
 
 // The index of a cursor, at a block that ends at `ending`, once the pixels with codes below `done` are done.
-fn onward(i: usize, ending: usize, done: usize) -> usize
+fn next_index(i: usize, ending: usize, done: usize) -> usize
     requires { ⌜ i + 1 < 2 ^ 64 ⌝ }
-    ensures { λ r. ⌜ r ≡ indexOn i ending done ⌝ }
+    ensures { λ r. ⌜ r ≡ nextIndex i ending done ⌝ }
 {
     if done < ending { i } else { i + 1 }
 }
@@ -73,11 +73,11 @@ pub(crate) fn lay_over(
         let ending = end_of(first_codes[i], first_levels[i]);
         let other = end_of(second_codes[j], second_levels[j]);
         let done = least(ending, other);
-        let colour = larger(first_colours[i], second_colours[j]);
+        let colour = larger_colour(first_colours[i], second_colours[j]);
         let size = done - pending.to;
         pending = append(n, pending, size, colour, codes, levels, colours);
-        i = onward(i, ending, done);
-        j = onward(j, other, done);
+        i = next_index(i, ending, done);
+        j = next_index(j, other, done);
     }
     write_run(n, pending, codes, levels, colours)
 }

@@ -14,16 +14,16 @@ abbrev pub piece : ℕ → ℕ → Piece
 piece k v = record { size = k; colour = v }
 
 -- The colours of pieces, one after the other.
-unfoldable pub painted : List Piece → List ℕ
-painted [] = []
-painted (a ∷ ps) = replicate (a .size) (a .colour) ++ painted ps
+unfoldable pub coloursOf : List Piece → List ℕ
+coloursOf [] = []
+coloursOf (a ∷ ps) = replicate (a .size) (a .colour) ++ coloursOf ps
 
 -- The number of pixels of pieces.
 unfoldable pub span : List Piece → ℕ
 span [] = 0
 span (a ∷ ps) = a .size + span ps
 
-pub length-painted : (ps : List Piece) → length (painted ps) ≡ span ps
-unfolding painted span
-length-painted [] = refl
-length-painted (a ∷ ps) = simp (length-append, length-replicate) (omega (arith, length-painted ps))
+pub length-colours : (ps : List Piece) → length (coloursOf ps) ≡ span ps
+unfolding coloursOf span
+length-colours [] = refl
+length-colours (a ∷ ps) = simp (length-append, length-replicate) (omega (arith, length-colours ps))

@@ -1,6 +1,6 @@
 -- Blocks stored in three lent lists, after those that stand there already.
-use mathlib.Core.Path.{_≡_, refl, sym, ap, ap₂, _∙_}
-use mathlib.Core.List.{List, [], _∷_, _++_, map}
+use mathlib.Core.Path.{_≡_, sym, ap, ap₂, _∙_}
+use mathlib.Core.List.{List, [], _∷_, _++_, map, map-append}
 use Prim.Native.Nat.{ℕ, zero, suc, _+_, _≤_, _<_}
 use native.Mathlib.Omega.{arith}
 use lib.ListN.{length, take, drop, set, length-append, length-map, length-take, length-drop, take-append-drop}
@@ -8,15 +8,7 @@ use Rattle.sequences.specs.Over.{over, over-push, over-more, length-over}
 use Rattle.quadtree.specs.Blocks.{Block}
 use Rattle.quadtree.specs.Fields.{codes, levels, colours}
 use Rattle.quadtree.specs.Painting.{block}
-
--- Three lists: "A block list is three lent lists of equal length: codes, levels, colours" (document 01), or those that one is written to.
-pub record BlockList : Type 0 where
-  pub codes : List ℕ
-  pub levels : List ℕ
-  pub colours : List ℕ
-
-abbrev pub listOf : List ℕ → List ℕ → List ℕ → BlockList
-listOf cs ls ks = record { codes = cs; levels = ls; colours = ks }
+use Rattle.runs.specs.BlockLists.{BlockList, listOf, SameLengths, RoomFor}
 
 -- Numbers stored in a list after its first `count` entries; these stay, and so does what lies beyond.
 unfoldable pub storedAfter : ℕ → List ℕ → List ℕ → List ℕ
@@ -64,30 +56,25 @@ after-after new more old list count e h =
 
 -- ---- three lists
 
-map-append : (f : Block → ℕ) (xs ys : List Block) → map f (xs ++ ys) ≡ map f xs ++ map f ys
-map-append f [] ys = refl
-map-append f (x ∷ xs) ys = ap (λ (l : List ℕ). f x ∷ l) (map-append f xs ys)
-
 pub stored-none : (count : ℕ) (old : BlockList) → stored count [] old ≡ old
 unfolding stored
 stored-none count old i = record { codes = none-after count (old .codes) i; levels = none-after count (old .levels) i; colours = none-after count (old .colours) i }
 
 -- One block more.
-pub stored-one : (count : ℕ) (bs : List Block) (old now : BlockList) (at c l v : ℕ) → now ≡ stored count bs old → at ≡ count + length bs
-    → at < length (old .codes) → at < length (old .levels) → at < length (old .colours)
+pub stored-one : (count : ℕ) (bs : List Block) (old now : BlockList) (at c l v : ℕ) → now ≡ stored count bs old → at ≡ count + length bs → RoomFor (at + 1) old
     → listOf (set (now .codes) at c) (set (now .levels) at l) (set (now .colours) at v) ≡ stored count (bs ++ block c l v ∷ []) old
 unfolding stored
-stored-one count bs old now at c l v e f p q r i = record {
-  codes = field (λ (b : Block). b .code) (now .codes) (old .codes) (ap (λ (x : BlockList). x .codes) e) p i;
-  levels = field (λ (b : Block). b .level) (now .levels) (old .levels) (ap (λ (x : BlockList). x .levels) e) q i;
-  colours = field (λ (b : Block). b .colour) (now .colours) (old .colours) (ap (λ (x : BlockList). x .colours) e) r i;
+stored-one count bs old now at c l v e f room i = record {
+  codes = field (λ (b : Block). b .code) (now .codes) (old .codes) (ap (λ (x : BlockList). x .codes) e) (omega (arith, room .in-codes)) i;
+  levels = field (λ (b : Block). b .level) (now .levels) (old .levels) (ap (λ (x : BlockList). x .levels) e) (omega (arith, room .in-levels)) i;
+  colours = field (λ (b : Block). b .colour) (now .colours) (old .colours) (ap (λ (x : BlockList). x .colours) e) (omega (arith, room .in-colours)) i;
 }
   where
     field : (g : Block → ℕ) (list before : List ℕ) → list ≡ storedAfter count (map g bs) before → at < length before
         → set list at (g (block c l v)) ≡ storedAfter count (map g (bs ++ block c l v ∷ [])) before
-    field g list before h room =
+    field g list before h enough =
         ap (λ (t : List ℕ). set t at (g (block c l v))) h
-        ∙ one-after count (map g bs) before (g (block c l v)) at (omega (arith, length-map bs g)) room
+        ∙ one-after count (map g bs) before (g (block c l v)) at (omega (arith, length-map bs g)) enough
         ∙ ap (λ (t : List ℕ). storedAfter count t before) (sym (map-append g bs (block c l v ∷ [])))
 
 -- Blocks after those that were stored from the front on.
@@ -105,31 +92,6 @@ stored-more done more old now count e h i = record {
     field g list before k =
         after-after (map g done) (map g more) before list count (e ∙ sym (length-map done g)) k
         ∙ ap (λ (t : List ℕ). storedAfter 0 t before) (sym (map-append g done more))
-
--- Three lists of the same lengths as three others.
-pub record SameLengths (after before : BlockList) : Type 0 where
-  pub for-codes : length (after .codes) ≡ length (before .codes)
-  pub for-levels : length (after .levels) ≡ length (before .levels)
-  pub for-colours : length (after .colours) ≡ length (before .colours)
-
-pub same-again : {after between before : BlockList} → SameLengths after between → SameLengths between before → SameLengths after before
-same-again f g = record { for-codes = f .for-codes ∙ g .for-codes; for-levels = f .for-levels ∙ g .for-levels; for-colours = f .for-colours ∙ g .for-colours }
-
--- Three lists with at least so many entries each.
-pub record RoomFor (k : ℕ) (lists : BlockList) : Type 0 where
-  pub in-codes : k ≤ length (lists .codes)
-  pub in-levels : k ≤ length (lists .levels)
-  pub in-colours : k ≤ length (lists .colours)
-
-pub room-again : {k : ℕ} {after before : BlockList} → SameLengths after before → RoomFor k before → RoomFor k after
-room-again f g = record {
-  in-codes = omega (arith, f .for-codes, g .in-codes);
-  in-levels = omega (arith, f .for-levels, g .in-levels);
-  in-colours = omega (arith, f .for-colours, g .in-colours);
-}
-
-pub fewer : {j k : ℕ} {lists : BlockList} → j ≤ k → RoomFor k lists → RoomFor j lists
-fewer h g = record { in-codes = omega (arith, g .in-codes); in-levels = omega (arith, g .in-levels); in-colours = omega (arith, g .in-colours) }
 
 pub length-stored : (count : ℕ) (bs : List Block) (old now : BlockList) → now ≡ stored count bs old → RoomFor (count + length bs) old → SameLengths now old
 unfolding stored

@@ -70,9 +70,9 @@ module _ (n : ℕ) (r : Run) (a : Piece) where
   unfolding ended
   nothing-ended e = ap (λ (t : Bool). cond t [] (squaresOf n r)) e
 
-  pub run-ended : continues r a ≡ false → ended n r a ≡ squaresOf n r
+  pub squares-ended : continues r a ≡ false → ended n r a ≡ squaresOf n r
   unfolding ended
-  run-ended e = ap (λ (t : Bool). cond t [] (squaresOf n r)) e
+  squares-ended e = ap (λ (t : Bool). cond t [] (squaresOf n r)) e
 
   pub run-longer : continues r a ≡ true → next r a ≡ run (r .from) (r .to + a .size) (r .colour)
   unfolding next
@@ -82,7 +82,7 @@ module _ (n : ℕ) (r : Run) (a : Piece) where
   unfolding next
   run-anew e = ap (λ (t : Bool). cond t (run (r .from) (r .to + a .size) (r .colour)) (run (r .to) (r .to + a .size) (a .colour))) e
 
-  -- The run ends with the pixels that came; what is written lies before it.
+  -- The run ends with the pixels that came, and no more blocks are written than pixels lie before it.
   pub next-end : next r a .to ≡ r .to + a .size
   next-end = pick (continues r a) refl
     where
@@ -100,7 +100,7 @@ module _ (n : ℕ) (r : Run) (a : Piece) where
           (omega (arith, ap length (nothing-ended e)), omega (arith, next-end))
       pick false e =
           let f : next r a .from ≡ r .to = ap (λ (s : Run). s .from) (run-anew e) in
-          (omega (arith, ap length (run-ended e), length-squares n (r .from) (r .to) (r .colour)), omega (arith, next-end))
+          (omega (arith, ap length (squares-ended e), length-squares n (r .from) (r .to) (r .colour)), omega (arith, next-end))
 
 pub written-end : (n : ℕ) (r : Run) → writtenFrom n r [] ≡ squaresOf n r
 unfolding writtenFrom

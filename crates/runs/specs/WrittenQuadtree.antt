@@ -12,37 +12,37 @@ use Rattle.quadtree.specs.Blocks.{Block}
 use Rattle.quadtree.specs.Quadtree.{quadtree}
 use Rattle.quadtree.specs.Merging.{mergedFrom, merged-end}
 use Rattle.quadtree.specs.Merged.{merged-is-quadtree}
-use Rattle.runs.specs.Pieces.{Piece, painted, span, length-painted}
-use Rattle.runs.specs.Written.{Run, run, squaresOf, continues, ended, next, writtenFrom, written, none-continues, same-continues, other-ends, nothing-ended, run-ended, run-longer, run-anew, written-end, written-more}
+use Rattle.runs.specs.Pieces.{Piece, coloursOf, span, length-colours}
+use Rattle.runs.specs.Written.{Run, run, squaresOf, continues, ended, next, writtenFrom, written, none-continues, same-continues, other-ends, nothing-ended, squares-ended, run-longer, run-anew, written-end, written-more}
 use Rattle.runs.specs.Maximal.{Maximal, merged-over-run}
 
 -- The image px has the run's pixels in the run's colour, and from the run's end on what the pieces paint.
-pub record GoesOn (n : ℕ) (px : List ℕ) (r : Run) (ps : List Piece) : Type 0 where
+record GoesOn (n : ℕ) (px : List ℕ) (r : Run) (ps : List Piece) : Type 0 where
   pub ordered : r .from ≤ r .to
   pub same : (i : ℕ) → r .from ≤ i → i < r .to → getD px i 0 ≡ r .colour
-  pub left : drop (r .to) px ≡ painted ps
+  pub left : drop (r .to) px ≡ coloursOf ps
   pub whole : r .to + span ps ≡ 4 ^ n
 
 -- The pixels of the next piece, which begins at the code `to`, and those after it.
-piece-colour : (to : ℕ) (px : List ℕ) (a : Piece) (ps : List Piece) → drop to px ≡ painted (a ∷ ps) → (j : ℕ) → j < a .size → getD px (to + j) 0 ≡ a .colour
-unfolding painted
+piece-colour : (to : ℕ) (px : List ℕ) (a : Piece) (ps : List Piece) → drop to px ≡ coloursOf (a ∷ ps) → (j : ℕ) → j < a .size → getD px (to + j) 0 ≡ a .colour
+unfolding coloursOf
 piece-colour to px a ps e j h =
     sym (getD-drop to px j 0)
     ∙ ap (λ (l : List ℕ). getD l j 0) e
-    ∙ List·getD-append (replicate (a .size) (a .colour)) (painted ps) 0 j (omega (arith, length-replicate (a .size) (a .colour)))
+    ∙ List·getD-append (replicate (a .size) (a .colour)) (coloursOf ps) 0 j (omega (arith, length-replicate (a .size) (a .colour)))
     ∙ getD-replicate (a .size) j (a .colour) 0 h
 
-piece-pixel : (to : ℕ) (px : List ℕ) (a : Piece) (ps : List Piece) → drop to px ≡ painted (a ∷ ps) → (i : ℕ) → to ≤ i → i < to + a .size → getD px i 0 ≡ a .colour
+piece-pixel : (to : ℕ) (px : List ℕ) (a : Piece) (ps : List Piece) → drop to px ≡ coloursOf (a ∷ ps) → (i : ℕ) → to ≤ i → i < to + a .size → getD px i 0 ≡ a .colour
 piece-pixel to px a ps e i low high =
     let here : i ≡ to + (i - to) = omega arith in
     ap (λ (j : ℕ). getD px j 0) here ∙ piece-colour to px a ps e (i - to) (omega arith)
 
-piece-left : (to : ℕ) (px : List ℕ) (a : Piece) (ps : List Piece) → drop to px ≡ painted (a ∷ ps) → drop (to + a .size) px ≡ painted ps
-unfolding painted
+piece-left : (to : ℕ) (px : List ℕ) (a : Piece) (ps : List Piece) → drop to px ≡ coloursOf (a ∷ ps) → drop (to + a .size) px ≡ coloursOf ps
+unfolding coloursOf
 piece-left to px a ps e =
     sym (drop-drop (a .size) to px)
     ∙ ap (drop (a .size)) e
-    ∙ drop-at (replicate (a .size) (a .colour)) (painted ps) (a .size) (length-replicate (a .size) (a .colour))
+    ∙ drop-at (replicate (a .size) (a .colour)) (coloursOf ps) (a .size) (length-replicate (a .size) (a .colour))
 
 -- ---- one piece more
 
@@ -115,17 +115,17 @@ written-merges n px r (a ∷ ps) h =
     pick (no z) (yes e) same other = on (same-continues r a e) (λ some. e) same
     pick (no z) (no e) same other =
         let t = other-ends r a z e in
-        ap₂ (λ (w : List Block) (s : Run). w ++ writtenFrom n s ps) (run-ended n r a t) (run-anew n r a t)
+        ap₂ (λ (w : List Block) (s : Run). w ++ writtenFrom n s ps) (squares-ended n r a t) (run-anew n r a t)
         ∙ ap (λ (w : List Block). squaresOf n r ++ w) (other (begins h))
         ∙ sym (merged-over-run n px (r .from) (r .to) (r .colour) (h .ordered) (ends-before h z e))
 
 -- Before the first piece the run is empty.
-begins-empty : (n : ℕ) (ps : List Piece) → span ps ≡ 4 ^ n → GoesOn n (painted ps) (run 0 0 0) ps
+begins-empty : (n : ℕ) (ps : List Piece) → span ps ≡ 4 ^ n → GoesOn n (coloursOf ps) (run 0 0 0) ps
 begins-empty n ps long = record { ordered = omega arith; same = λ i low high. absurd (omega arith); left = refl; whole = omega arith }
 
 -- Pieces that paint an image are written as its quadtree, however it is cut into them.
-pub written-is-quadtree : (n : ℕ) (ps : List Piece) (px : List ℕ) → n ≤ 8 → painted ps ≡ px → length px ≡ 4 ^ n → written n ps ≡ quadtree n px
+pub written-is-quadtree : (n : ℕ) (ps : List Piece) (px : List ℕ) → n ≤ 8 → coloursOf ps ≡ px → length px ≡ 4 ^ n → written n ps ≡ quadtree n px
 unfolding written
 written-is-quadtree n ps px small same long =
-    let whole : span ps ≡ 4 ^ n = sym (length-painted ps) ∙ ap length same ∙ long in
-    written-merges n (painted ps) (run 0 0 0) ps (begins-empty n ps whole) ∙ merged-is-quadtree n (painted ps) small ∙ ap (quadtree n) same
+    let whole : span ps ≡ 4 ^ n = sym (length-colours ps) ∙ ap length same ∙ long in
+    written-merges n (coloursOf ps) (run 0 0 0) ps (begins-empty n ps whole) ∙ merged-is-quadtree n (coloursOf ps) small ∙ ap (quadtree n) same

@@ -1,10 +1,10 @@
 -- The loop's invariant: the squares written and those from `code` on are all of the run's. The measure is the pixels left.
 use mathlib.Core.Path.{refl}
-use Prim.Native.Nat.{_-_}
+use Prim.Native.Nat.{_-_, _≤_, _<_}
 use native.Mathlib.Omega.{arith}
 use borrow.Author.Needs.{needs}
 use Rattle.location.specs.Levels.{pixelsOf}
-use Rattle.runs.specs.Stored.{listOf}
+use Rattle.runs.specs.BlockLists.{listOf}
 use Rattle.appending.specs.WriteLoop.{Writing, Turn, writing-none, square-in-run, turn, writing-more, run-written}
 use Rattle.appending.proofs.write_run.Statement.{statement}
 use Rattle.appending.proofs.write_run.Tie as tie
@@ -31,6 +31,9 @@ sized c =
     let now = c .before .before in
     turn (entry now .pre) (now .before .before .loop .inv) (now .if1 .taken) (c .before .level-in .ensures) (c .pixels .ensures)
 
+here : (c : tie.After-level-in Inv-loop μ-loop) → let l = c .before .before .before .loop in (l .at ≤ l .code) × (l .code < entry (c .before) .args .pending .to)
+here c = (c .before .before .before .loop .inv .few, c .before .if1 .taken)
+
 loop-holds : tie.Need-loop-holds Inv-loop μ-loop
 loop-holds c = writing-none (c .before .before .before .pre)
 
@@ -38,28 +41,28 @@ level-in-requires : tie.Need-level-in-requires Inv-loop μ-loop
 level-in-requires c κs = square-in-run (entry c .pre) (c .before .before .loop .inv) (c .if1 .taken)
 
 cast-codes : tie.Need-cast-codes Inv-loop μ-loop
-cast-codes c = omega (arith, c .before .if1 .taken, square c)
+cast-codes c = omega (arith, here c, square c)
 
 mul-codes : tie.Need-mul-codes Inv-loop μ-loop
-mul-codes c = omega (arith, c .before .if1 .taken, c .before .before .before .loop .inv .few, square c)
+mul-codes c = omega (arith, here c, square c)
 
 slice-write-codes : tie.Need-slice-write-codes Inv-loop μ-loop
-slice-write-codes c = square c .in-codes
+slice-write-codes c = omega (arith, here c, square c .room)
 
 cast-levels : tie.Need-cast-levels Inv-loop μ-loop
 cast-levels c = omega (arith, square c)
 
 slice-write-levels : tie.Need-slice-write-levels Inv-loop μ-loop
-slice-write-levels c = square c .in-levels
+slice-write-levels c = omega (arith, here c, square c .room)
 
 mul-colours : tie.Need-mul-colours Inv-loop μ-loop
-mul-colours c = omega (arith, c .before .if1 .taken, c .before .before .before .loop .inv .few, square c)
+mul-colours c = omega (arith, here c, square c)
 
 slice-write-colours : tie.Need-slice-write-colours Inv-loop μ-loop
-slice-write-colours c = square c .in-colours
+slice-write-colours c = omega (arith, here c, square c .room)
 
 add-at : tie.Need-add-at Inv-loop μ-loop
-add-at c = omega (arith, c .before .if1 .taken, c .before .before .before .loop .inv .few, square c)
+add-at c = omega (arith, here c, square c)
 
 pixels-requires : tie.Need-pixels-requires Inv-loop μ-loop
 pixels-requires c κs = search needs

@@ -7,18 +7,22 @@ use borrow.Author.Needs.{needs}
 use Rattle.sequences.specs.Powers.{pow4-mono}
 use Rattle.location.specs.Levels.{pixels-are-power}
 use Rattle.quadtree.specs.Accepted.{number-zero}
-use Rattle.runs.specs.Stored.{listOf, RoomFor}
-use Rattle.overlaying.specs.Promise.{numberOf, first-refused, second-refused, one-short, laid-over}
-use Rattle.overlaying.specs.Pass.{accepted-covers, all-lengths}
+use Rattle.runs.specs.BlockLists.{listOf, numberOf, accepted-covers, RoomFor}
+use Rattle.overlaying.specs.Promise.{first-refused, second-refused, one-short, laid-over}
+use Rattle.overlaying.specs.Pass.{all-lengths}
 use Rattle.overlaying.proofs.overlay.Statement.{statement}
 use Rattle.overlaying.proofs.overlay.Tie as tie
 
--- Where the first list is accepted, seen from where the call began and from where the numbers and the room are known.
+-- Where the call began, and where the room is known, seen from where the first list is accepted.
 abbrev entry : tie.Else1 → tie.Start
-entry c = c .before .before .before .before .before .before .before .before .before .before .before
+entry c = c .before .before .before .before .before .before .before .before .before .before .before .before .before .before
 
-abbrev judged : tie.After-least2 → tie.Else1
-judged c = c .before .before .before .before
+abbrev measured : tie.Else1 → tie.After-least2
+measured c = c .before .before
+
+-- Where the first list is accepted, seen from where the second is.
+abbrev judged : tie.Else2 → tie.Else1
+judged c = c .before .before
 
 -- Where the pass is done, and where it began.
 abbrev passed : tie.After-slice-known6 → tie.After-lay-over
@@ -34,25 +38,24 @@ returns c = first-refused _ _ _ _ (c .before .check .ensures) (c .if1 .taken)
 first-accepted : (c : tie.Else1) → let a = entry c .args in numberOf (a .n) (listOf (a .first-codes .now) (a .first-levels .now) (a .first-colours .now)) ≡ 0
 first-accepted c = sym (c .before .check .ensures) ∙ c .if1 .left
 
-second-accepted : (c : tie.Else2) → let a = entry (judged (c .before)) .args in
+second-accepted : (c : tie.Else2) → let a = entry (judged c) .args in
     numberOf (a .n) (listOf (a .second-codes .now) (a .second-levels .now) (a .second-colours .now)) ≡ 0
-second-accepted c = sym (c .before .before .before .before .check2 .ensures) ∙ c .if2 .left
+second-accepted c = sym (c .before .check2 .ensures) ∙ c .if2 .left
 
 small : (c : tie.Else1) → entry c .args .n ≤ 8
 small c = number-zero _ _ _ _ (first-accepted c) .small
 
-whole : (c : tie.After-least2) → c .before .before .pixels .result ≡ 4 ^ entry (judged c) .args .n
-whole c = c .before .before .pixels .ensures ∙ pixels-are-power (entry (judged c) .args .n) (omega (arith, small (judged c)))
+whole : (c : tie.Else1) → measured c .before .before .pixels .result ≡ 4 ^ entry c .args .n
+whole c = measured c .before .before .pixels .ensures ∙ pixels-are-power (entry c .args .n) (omega (arith, small c))
 
-room : (c : tie.After-least2) → let a = entry (judged c) .args in
-    c .least2 .result ≡ min (length (a .codes .now)) (min (length (a .levels .now)) (length (a .colours .now)))
-room c = c .least2 .ensures ∙ ap (min (length (entry (judged c) .args .codes .now))) (c .before .least .ensures)
+room : (c : tie.Else1) → let a = entry c .args in measured c .least2 .result ≡ min (length (a .codes .now)) (min (length (a .levels .now)) (length (a .colours .now)))
+room c = measured c .least2 .ensures ∙ ap (min (length (entry c .args .codes .now))) (measured c .before .least .ensures)
 
-enough : (c : tie.Else3) → let a = entry (judged (c .before .before)) .args in RoomFor (4 ^ a .n) (listOf (a .codes .now) (a .levels .now) (a .colours .now))
+enough : (c : tie.Else3) → let a = entry (judged (c .before)) .args in RoomFor (4 ^ a .n) (listOf (a .codes .now) (a .levels .now) (a .colours .now))
 enough c =
-    let known = c .before .before in
+    let from = judged (c .before) in
     let long = c .if3 .left in
-    record { in-codes = omega (arith, long, room known, whole known); in-levels = omega (arith, long, room known, whole known); in-colours = omega (arith, long, room known, whole known) }
+    record { in-codes = omega (arith, long, room from, whole from); in-levels = omega (arith, long, room from, whole from); in-colours = omega (arith, long, room from, whole from) }
 
 check-requires : tie.Need-check-requires
 check-requires c κs = search needs
@@ -70,17 +73,17 @@ least-requires-2 : tie.Need-least-requires-2
 least-requires-2 c κs = search needs
 
 returns-2 : tie.Need-returns-2
-returns-2 c = second-refused _ _ _ _ (first-accepted (judged (c .before))) (c .before .before .before .before .check2 .ensures) (c .if2 .taken)
+returns-2 c = second-refused _ _ _ _ (first-accepted (c .before .before)) (c .before .check2 .ensures) (c .if2 .taken)
 
 returns-3 : tie.Need-returns-3
 returns-3 c =
-    let known = c .before .before in
-    one-short _ _ _ _ (first-accepted (judged known)) (second-accepted (c .before)) (known .least2 .result) (room known) (omega (arith, whole known, c .if3 .taken))
+    let from = judged (c .before) in
+    one-short _ _ _ _ (first-accepted from) (second-accepted (c .before)) (measured from .least2 .result) (room from) (omega (arith, whole from, c .if3 .taken))
 
 lay-over-requires : tie.Need-lay-over-requires
 lay-over-requires c κs =
     let past = c .before .before .before in
-    let from = judged (past .before .before) in
+    let from = judged (past .before) in
     record {
       small = small from;
       first = accepted-covers _ _ (first-accepted from);
@@ -91,7 +94,7 @@ lay-over-requires c κs =
 cast-count : tie.Need-cast-count
 cast-count c =
     let w = passed c in
-    omega (arith, w .lay-over .ensures .few, pow4-mono (small (judged (begun w .before .before))))
+    omega (arith, w .lay-over .ensures .few, pow4-mono (small (judged (begun w .before))))
 
 same-length : tie.Need-same-length
 same-length c = let w = passed c in all-lengths (enough (begun w)) (w .lay-over .ensures) .for-codes
@@ -106,19 +109,19 @@ returns-4 : tie.Need-returns-4
 returns-4 c =
     let w = passed c in
     let past = begun w in
-    laid-over _ _ _ _ (first-accepted (judged (past .before .before))) (second-accepted (past .before)) (enough past) (w .lay-over .ensures .answer)
+    laid-over _ _ _ _ (first-accepted (judged (past .before))) (second-accepted (past .before)) (enough past) (w .lay-over .ensures .answer)
     (w .lay-over .ensures .lists)
 
 pub overlay-spec : {M : Type 1} → statement M
 overlay-spec =
     tie.close
     (tie.spec
-    check-requires
-    returns
-    check-requires-2
     pixels-requires
     least-requires
     least-requires-2
+    check-requires
+    returns
+    check-requires-2
     returns-2
     returns-3
     lay-over-requires

@@ -4,9 +4,9 @@ use Prim.Native.Nat.{_-_, _^_, _≤_, _<_}
 use native.Mathlib.Omega.{arith}
 use lib.ListN.{length}
 use borrow.Author.Needs.{needs}
-use Rattle.runs.specs.Stored.{listOf}
+use Rattle.runs.specs.BlockLists.{listOf}
 use Rattle.appending.specs.Progress.{progress-few}
-use Rattle.overlaying.specs.Pass.{Passing, BlockHere, passing-none, in-second, first-here, second-here, done-on, piece-fits, end-on, passing-more, passed}
+use Rattle.overlaying.specs.Pass.{Passing, Reached, passing-none, in-second, first-reached, second-reached, done-on, piece-appendable, end-on, passing-more, passed}
 use Rattle.overlaying.proofs.pass.lay_over.Statement.{statement}
 use Rattle.overlaying.proofs.pass.lay_over.Tie as tie
 
@@ -22,10 +22,10 @@ abbrev μ-loop : tie.MeasureT-loop
 abbrev entry : tie.In-loop Inv-loop μ-loop → tie.Start Inv-loop μ-loop
 entry c = c .before .before .before .before .before .before .before .before .before .before .before
 
-abbrev begun : tie.After-larger Inv-loop μ-loop → tie.In-loop Inv-loop μ-loop
+abbrev begun : tie.After-larger-colour Inv-loop μ-loop → tie.In-loop Inv-loop μ-loop
 begun c = c .before .before .before .before .before .before .before .before .before .before
 
-abbrev piece-known : tie.After-append Inv-loop μ-loop → tie.After-larger Inv-loop μ-loop
+abbrev piece-known : tie.After-append Inv-loop μ-loop → tie.After-larger-colour Inv-loop μ-loop
 piece-known c = c .before .before .before .before .before
 
 -- Where the last run was written, and where the loop ended.
@@ -36,18 +36,18 @@ abbrev past : tie.After-write-run Inv-loop μ-loop → tie.At-loop Inv-loop μ-l
 past c = c .before .before .before .before .before
 
 first : (c : tie.In-loop Inv-loop μ-loop) → let a = entry c .args in let l = c .before .loop in
-    BlockHere (a .n) (listOf (a .first-codes .now) (a .first-levels .now) (a .first-colours .now)) (l .pending .to) (l .i)
-first c = first-here (entry c .pre) (c .before .loop .inv) (c .loop-test .taken)
+    Reached (listOf (a .first-codes .now) (a .first-levels .now) (a .first-colours .now)) (l .i)
+first c = first-reached (entry c .pre) (c .before .loop .inv) (c .loop-test .taken)
 
 second : (c : tie.In-loop Inv-loop μ-loop) → let a = entry c .args in let l = c .before .loop in
-    BlockHere (a .n) (listOf (a .second-codes .now) (a .second-levels .now) (a .second-colours .now)) (l .pending .to) (l .j)
-second c = second-here (entry c .pre) (c .before .loop .inv) (c .loop-test .taken)
+    Reached (listOf (a .second-codes .now) (a .second-levels .now) (a .second-colours .now)) (l .j)
+second c = second-reached (entry c .pre) (c .before .loop .inv) (c .loop-test .taken)
 
 second-codes : (c : tie.In-loop Inv-loop μ-loop) → c .before .loop .j < length (entry c .args .second-codes .now)
 second-codes c = in-second (entry c .pre) (c .before .loop .inv) (c .loop-test .taken)
 
 -- The end of the next piece lies beyond the pending run, in the image.
-farther : (c : tie.After-larger Inv-loop μ-loop) → (begun c .before .loop .pending .to < c .before .before .before .least .result) × (c .before .before .before .least .result ≤ 4 ^ entry (begun c) .args .n)
+farther : (c : tie.After-larger-colour Inv-loop μ-loop) → (begun c .before .loop .pending .to < c .before .before .before .least .result) × (c .before .before .before .least .result ≤ 4 ^ entry (begun c) .args .n)
 farther c =
     let now = begun c in
     done-on (entry now .pre) (now .before .loop .inv) (now .loop-test .taken) (c .before .before .before .before .before .before .before .end-of .ensures)
@@ -83,36 +83,36 @@ end-of-requires-2 c κs = let b = second (c .before .before .before .before .bef
 least-requires : tie.Need-least-requires Inv-loop μ-loop
 least-requires c κs = search needs
 
-mul-larger : tie.Need-mul-larger Inv-loop μ-loop
-mul-larger c = let now = c .before .before .before .before .before .before .before in omega (arith, first now, second now, entry now .good)
+mul-larger-colour : tie.Need-mul-larger-colour Inv-loop μ-loop
+mul-larger-colour c = let now = c .before .before .before .before .before .before .before in omega (arith, first now, second now, entry now .good)
 
-shared-slice-read-larger : tie.Need-shared-slice-read-larger Inv-loop μ-loop
-shared-slice-read-larger c = let now = c .before .before .before .before .before .before .before .before in omega (arith, first now, second now)
+shared-slice-read-larger-colour : tie.Need-shared-slice-read-larger-colour Inv-loop μ-loop
+shared-slice-read-larger-colour c = let now = c .before .before .before .before .before .before .before .before in omega (arith, first now, second now)
 
-mul-larger-2 : tie.Need-mul-larger-2 Inv-loop μ-loop
-mul-larger-2 c = let now = c .before .before .before .before .before .before .before .before in omega (arith, first now, second now, entry now .good)
+mul-larger-colour-2 : tie.Need-mul-larger-colour-2 Inv-loop μ-loop
+mul-larger-colour-2 c = let now = c .before .before .before .before .before .before .before .before in omega (arith, first now, second now, entry now .good)
 
-shared-slice-read-larger-2 : tie.Need-shared-slice-read-larger-2 Inv-loop μ-loop
-shared-slice-read-larger-2 c = let now = c .before .before .before .before .before .before .before .before .before in omega (arith, first now, second now)
+shared-slice-read-larger-colour-2 : tie.Need-shared-slice-read-larger-colour-2 Inv-loop μ-loop
+shared-slice-read-larger-colour-2 c = let now = c .before .before .before .before .before .before .before .before .before in omega (arith, first now, second now)
 
-larger-requires : tie.Need-larger-requires Inv-loop μ-loop
-larger-requires c κs = search needs
+larger-colour-requires : tie.Need-larger-colour-requires Inv-loop μ-loop
+larger-colour-requires c κs = search needs
 
 sub-size : tie.Need-sub-size Inv-loop μ-loop
-sub-size c = omega (arith, farther (c .before), begun (c .before) .before .loop .inv .progress .room .ordered)
+sub-size c = omega (arith, farther (c .before), begun (c .before) .before .loop .inv .progress .writable .ordered)
 
 append-requires : tie.Need-append-requires Inv-loop μ-loop
 append-requires c κs =
     let known = c .before .before .before .before in
     let now = begun known in
-    piece-fits (entry now .pre) (now .before .loop .inv) (now .loop-test .taken) (known .before .before .before .before .before .before .before .end-of .ensures)
+    piece-appendable (entry now .pre) (now .before .loop .inv) (now .loop-test .taken) (known .before .before .before .before .before .before .before .end-of .ensures)
     (known .before .before .before .before .end-of2 .ensures) (known .before .before .before .least .ensures)
 
-onward-requires : tie.Need-onward-requires Inv-loop μ-loop
-onward-requires c κs = let now = begun (piece-known (c .before .before .before .before .before .before)) in omega (arith, now .loop-test .taken, entry now .good)
+next-index-requires : tie.Need-next-index-requires Inv-loop μ-loop
+next-index-requires c κs = let now = begun (piece-known (c .before .before .before .before .before .before)) in omega (arith, now .loop-test .taken, entry now .good)
 
-onward-requires-2 : tie.Need-onward-requires-2 Inv-loop μ-loop
-onward-requires-2 c κs = let now = begun (piece-known (c .before .before .before .before .before .before .before)) in omega (arith, second-codes now, entry now .good)
+next-index-requires-2 : tie.Need-next-index-requires-2 Inv-loop μ-loop
+next-index-requires-2 c κs = let now = begun (piece-known (c .before .before .before .before .before .before .before)) in omega (arith, second-codes now, entry now .good)
 
 loop-less : tie.Need-loop-less Inv-loop μ-loop
 loop-less c =
@@ -132,10 +132,10 @@ loop-again c =
     let known = piece-known done in
     let now = begun known in
     passing-more (entry now .pre) (now .before .loop .inv) (now .loop-test .taken) (known .before .before .before .before .before .before .before .end-of .ensures)
-    (known .before .before .before .before .end-of2 .ensures) (known .before .before .before .least .ensures) (done .append .ensures) (known .larger .ensures) (c .before .onward .ensures) (c .onward2 .ensures)
+    (known .before .before .before .before .end-of2 .ensures) (known .before .before .before .least .ensures) (done .append .ensures) (known .larger-colour .ensures) (c .before .next-index .ensures) (c .next-index2 .ensures)
 
 write-run-requires : tie.Need-write-run-requires Inv-loop μ-loop
-write-run-requires c κs = c .before .before .before .before .loop .inv .progress .room
+write-run-requires c κs = c .before .before .before .before .loop .inv .progress .writable
 
 same-length : tie.Need-same-length Inv-loop μ-loop
 same-length c = let w = wrote c in progress-few (past w .loop .inv .progress) (w .write-run .ensures) .1 .for-codes
@@ -168,15 +168,15 @@ lay-over-spec =
     shared-slice-read-end-of-4
     end-of-requires-2
     least-requires
-    mul-larger
-    shared-slice-read-larger
-    mul-larger-2
-    shared-slice-read-larger-2
-    larger-requires
+    mul-larger-colour
+    shared-slice-read-larger-colour
+    mul-larger-colour-2
+    shared-slice-read-larger-colour-2
+    larger-colour-requires
     sub-size
     append-requires
-    onward-requires
-    onward-requires-2
+    next-index-requires
+    next-index-requires-2
     loop-less
     loop-again
     write-run-requires
