@@ -32,7 +32,7 @@ unfoldable pub blocksWritten : ℕ → BlockList → BlockList → BlockList →
 unfolding ifAccepted overlayNumber overlaid
 blocksWritten n a b lent = ifAccepted (overlayNumber n a b lent) (overlaid n a b)
 
--- The list a laid over the list b, and the three lists written to `before` and `after`.
+-- The list a laid over the list b. The three lists that are written to are `before` and then `after`.
 pub record Overlay (n : ℕ) (a b before after : BlockList) (r : Written) : Type 0 where
   pub answer : r ≡ record { number = overlayNumber n a b before; count = length (blocksWritten n a b before) }
   pub in-codes : after .codes ≡ over (codes (blocksWritten n a b before)) (before .codes)
