@@ -10,7 +10,7 @@ use Rattle.quadtree.specs.Blocks.{Block}
 use Rattle.runs.specs.Pieces.{Piece, piece}
 use Rattle.runs.specs.Squares.{length-squares}
 use Rattle.runs.specs.Written.{Run, run, squaresOf, ended, next, same-continues, other-ends, nothing-ended, squares-ended, run-longer, run-anew}
-use Rattle.runs.specs.BlockLists.{BlockList, RoomFor, SameLengths, room-for-fewer}
+use Rattle.quadtree.specs.BlockLists.{BlockList, RoomFor, SameLengths, room-for-fewer}
 use Rattle.runs.specs.Stored.{stored, stored-none, length-stored}
 use Rattle.appending.specs.declared.Pending.{Pending}
 

@@ -8,7 +8,7 @@ use Rattle.quadtree.specs.Blocks.{Block}
 use Rattle.runs.specs.Pieces.{Piece, span}
 use Rattle.runs.specs.Squares.{length-squares}
 use Rattle.runs.specs.Written.{squaresOf, ended, next, writtenFrom, written, next-end, next-room, written-end, written-more}
-use Rattle.runs.specs.BlockLists.{BlockList, RoomFor, SameLengths, same-again, room-again, room-for-fewer}
+use Rattle.quadtree.specs.BlockLists.{BlockList, RoomFor, SameLengths, same-again, room-again, room-for-fewer}
 use Rattle.runs.specs.Stored.{stored, stored-none, stored-more, length-stored}
 use Rattle.appending.specs.declared.Pending.{Pending}
 use Rattle.appending.specs.Appended.{runOf, pendingAt, Writable, RunWritten, same-lengths, Appendable, Appended}

@@ -10,7 +10,7 @@ use Rattle.quadtree.specs.Blocks.{Block}
 use Rattle.quadtree.specs.Painting.{block}
 use Rattle.runs.specs.Squares.{levelIn, squares, level-ends, level-in-image, squares-end, squares-more}
 use Rattle.runs.specs.Written.{squaresOf}
-use Rattle.runs.specs.BlockLists.{BlockList, listOf, SameLengths, room-for-fewer, room-again, RoomFor}
+use Rattle.quadtree.specs.BlockLists.{BlockList, listOf, SameLengths, room-for-fewer, room-again, RoomFor}
 use Rattle.runs.specs.Stored.{stored, stored-none, stored-one}
 use Rattle.appending.specs.declared.Pending.{Pending}
 use Rattle.appending.specs.Levels.{RunIn}

@@ -3,7 +3,7 @@
 ghost use mathlib.Core.Path.{_≡_};
 ghost use Rattle.runs.specs.Pieces.{piece};
 ghost use Rattle.runs.specs.Squares.{levelIn};
-ghost use Rattle.runs.specs.BlockLists.{listOf};
+ghost use Rattle.quadtree.specs.BlockLists.{listOf};
 ghost use Rattle.appending.specs.Levels.{RunIn};
 ghost use Rattle.appending.specs.Appended.{Writable, RunWritten, Appendable, Appended};
 

@@ -9,7 +9,7 @@ use Rattle.sequences.specs.Ranges.{tabulate}
 use Rattle.interleaving.specs.Codes.{code}
 use Rattle.quadtree.specs.Orders.{in-rows-at}
 use Rattle.answers.specs.declared.Written.{Written}
-use Rattle.runs.specs.BlockLists.{BlockList, blocksOf, imageOf, numberOf}
+use Rattle.quadtree.specs.BlockLists.{BlockList, blocksOf, imageOf, numberOf}
 use Rattle.overlaying.specs.Larger.{larger}
 use Rattle.overlaying.specs.Promise.{Overlay}
 use Rattle.overlaying.specs.Callers.{resultOf, accepted-only, result-accepted, result-paints-larger, each-pixel-larger}

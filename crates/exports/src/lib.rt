@@ -5,7 +5,7 @@ ghost use Rattle.interleaving.specs.Codes.{code};
 ghost use Rattle.quadtree.specs.Number.{number};
 ghost use Rattle.merging.specs.Promise.{FromRaster};
 ghost use Rattle.painting.specs.Promise.{ToRaster};
-ghost use Rattle.runs.specs.BlockLists.{listOf};
+ghost use Rattle.quadtree.specs.BlockLists.{listOf};
 ghost use Rattle.overlaying.specs.Promise.{Overlay};
 ghost use Rattle.regions.specs.Promise.{Numbering};
 ghost use Rattle.tracing.specs.Tracing.{lent, Tracing};

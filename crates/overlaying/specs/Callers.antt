@@ -1,11 +1,10 @@
 -- What a caller knows, from the promise, about the answer and the lists at exit.
-use mathlib.Core.Path.{_≡_, refl, sym, ap, ap₂, _∙_}
-use mathlib.Core.Bool.{Bool, true, false}
+use mathlib.Core.Path.{_≡_, sym, ap, ap₂, _∙_}
 use mathlib.Core.List.{List, [], map}
 use Prim.Native.Nat.{ℕ, _^_, _≤_, _<_, max}
 use native.Mathlib.Omega.{arith}
 use lib.ListN.{length, getD, take, length-map}
-use Rattle.sequences.specs.Cases.{first, when, first-zero, when-yes, when-no, when-zero, written-accepted, written-refused}
+use Rattle.sequences.specs.Cases.{first, when, first-zero, written-accepted, written-refused}
 use Rattle.sequences.specs.Over.{over, over-none, over-beyond, take-over}
 use Rattle.quadtree.specs.Blocks.{Block, paint}
 use Rattle.quadtree.specs.Fields.{codes, levels, colours, blocks-of-fields}
@@ -14,9 +13,9 @@ use Rattle.quadtree.specs.Painting.{paint-quadtree}
 use Rattle.quadtree.specs.Accepted.{number-zero, quadtree-accepted, one-accepted-list}
 use Rattle.blocks.specs.Checking.{number-large}
 use Rattle.answers.specs.declared.Written.{Written}
-use Rattle.runs.specs.BlockLists.{BlockList, listOf, imageOf, numberOf, Covering, accepted-covers, RoomFor, tooShort, none-short, room-unless-short}
+use Rattle.quadtree.specs.BlockLists.{BlockList, listOf, imageOf, numberOf, Covering, accepted-covers, RoomFor, tooShort}
 use Rattle.overlaying.specs.Larger.{larger, larger-at}
-use Rattle.overlaying.specs.Promise.{overlaid, overlayNumber, blocksWritten, Overlay, number-of-first, number-of-second, number-of-lent}
+use Rattle.overlaying.specs.Promise.{overlaid, overlayNumber, blocksWritten, Overlay, number-of-first, number-of-second, none-short, room-unless-short, short-unless-room}
 use Rattle.overlaying.specs.SharedPainted.{same-size, length-of-larger}
 
 -- The list that was written: the three lists at exit up to the count.
@@ -41,22 +40,19 @@ module _ {n : ℕ} {a b before after : BlockList} {r : Written} (p : Overlay n a
   second-list-then e h = number-answered ∙ number-of-second n a b before e h
 
   pub eight-comes-last : numberOf n a ≡ 0 → numberOf n b ≡ 0 → (RoomFor (4 ^ n) before → ⊥) → r .number ≡ 8
-  eight-comes-last e f short = number-answered ∙ number-of-lent n a b before e f ∙ pick (tooShort (4 ^ n) before) refl
-    where
-      pick : (t : Bool) → tooShort (4 ^ n) before ≡ t → when (tooShort (4 ^ n) before) 8 ≡ 8
-      pick true h = when-yes (tooShort (4 ^ n) before) 8 h
-      pick false h = absurd (short (room-unless-short (4 ^ n) before h))
+  eight-comes-last e f short = number-answered ∙ short-unless-room n a b before e f short
 
   -- Two accepted lists with room for the result are never refused, and nothing else is accepted.
   pub not-refused : numberOf n a ≡ 0 → numberOf n b ≡ 0 → RoomFor (4 ^ n) before → r .number ≡ 0
-  not-refused e f room = number-answered ∙ number-of-lent n a b before e f ∙ when-no (tooShort (4 ^ n) before) 8 (none-short (4 ^ n) before room)
+  not-refused e f room = number-answered ∙ none-short n a b before e f room
 
   pub accepted-only : r .number ≡ 0 → (numberOf n a ≡ 0) × (numberOf n b ≡ 0) × RoomFor (4 ^ n) before
   unfolding overlayNumber numberWith
   accepted-only ok =
-      let one = first-zero (numberOf n a) (first (numberOf n b) (when (tooShort (4 ^ n) before) 8)) (sym number-answered ∙ ok) in
+      let e : overlayNumber n a b before ≡ 0 = sym number-answered ∙ ok in
+      let one = first-zero (numberOf n a) (first (numberOf n b) (when (tooShort (4 ^ n) before) 8)) e in
       let two = first-zero (numberOf n b) (when (tooShort (4 ^ n) before) 8) (one .1) in
-      (one .0, two .0, room-unless-short (4 ^ n) before (when-zero (tooShort (4 ^ n) before) 8 (omega arith) (two .1)))
+      (one .0, two .0, room-unless-short n a b before (one .0) (two .0) e)
 
   -- After a refusal the count is 0 and all lists are as they were.
   pub refusal-leaves-all : 0 < r .number → (r .count ≡ 0) × (after ≡ before)

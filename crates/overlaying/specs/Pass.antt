@@ -14,7 +14,7 @@ use Rattle.quadtree.specs.Blocks.{Block}
 use Rattle.quadtree.specs.Lists.{blockOf, length-blocks, rest-of-blocks}
 use Rattle.runs.specs.Pieces.{Piece, piece}
 use Rattle.runs.specs.Written.{next-end}
-use Rattle.runs.specs.BlockLists.{BlockList, blocksOf, Covering, RoomFor, SameLengths, room-for-fewer}
+use Rattle.quadtree.specs.BlockLists.{BlockList, blocksOf, Covering, RoomFor, SameLengths, room-for-fewer}
 use Rattle.runs.specs.Stored.{stored, length-stored}
 use Rattle.appending.specs.declared.Pending.{Pending}
 use Rattle.appending.specs.Appended.{runOf, pendingAt, RunWritten, Appendable, Appended}

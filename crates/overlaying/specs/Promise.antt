@@ -1,10 +1,14 @@
 -- What laying one block list over another promises: the answer, and the later content of each list that is written to.
 use mathlib.Core.Path.{_≡_, refl, sym, ap, _∙_}
+use mathlib.Core.Bool.{Bool}
 use mathlib.Core.List.{List, [], _∷_}
-use Prim.Native.Nat.{ℕ, _^_, _<_, min}
+use Prim.Native.Nat.{ℕ, _^_, _<_}
+use native.Mathlib.Decide.{decLt}
 use native.Mathlib.Omega.{arith}
 use lib.ListN.{length}
-use Rattle.sequences.specs.Cases.{first, when, ifAccepted, first-some, first-none, when-yes, when-no, written-accepted, written-refused}
+use lib.Dec.{ltb}
+use borrow.Author.Tests.{lt-ltb, le-ltb, ltb-false}
+use Rattle.sequences.specs.Cases.{first, when, ifAccepted, first-some, first-none, when-yes, when-no, when-zero, written-accepted, written-refused}
 use Rattle.sequences.specs.Over.{over, over-none}
 use Rattle.quadtree.specs.Blocks.{Block, blocks, paint}
 use Rattle.quadtree.specs.Fields.{codes, levels, colours}
@@ -12,7 +16,7 @@ use Rattle.quadtree.specs.Quadtree.{quadtree}
 use Rattle.quadtree.specs.Number.{number, numberWith}
 use Rattle.quadtree.specs.Painting.{block}
 use Rattle.answers.specs.declared.Written.{Written}
-use Rattle.runs.specs.BlockLists.{BlockList, listOf, imageOf, numberOf, RoomFor, tooShort, none-short, least-short}
+use Rattle.quadtree.specs.BlockLists.{BlockList, listOf, imageOf, numberOf, oneShort, short-by-least, leastLength, tooShort, RoomFor, room-by-least}
 use Rattle.runs.specs.Stored.{stored, stored-in-front}
 use Rattle.overlaying.specs.Larger.{larger}
 
@@ -24,7 +28,7 @@ overlaid n a b = quadtree n (larger (imageOf a) (imageOf b))
 -- "Checks: 1, then 2 to 7 on the first list, 2 to 7 on the second, then 8 for three lists of 4^n" (document 02, request b). Both lists
 -- have one n, so 1 is met with the first.
 unfoldable pub overlayNumber : ℕ → BlockList → BlockList → BlockList → ℕ
-unfolding first number numberWith tooShort
+unfolding first number numberWith oneShort
 overlayNumber n a b lent = first (numberOf n a) (numberWith (tooShort (4 ^ n) lent) n (b .codes) (b .levels) (b .colours))
 
 -- The blocks written; none on a refusal.
@@ -73,19 +77,41 @@ module _ (n : ℕ) (a b lent : BlockList) where
     second-refused {k} e some = refused (omega arith) (e ∙ sym (number-of-second (omega (arith, e))))
 
     module _ (second-accepted : numberOf n b ≡ 0) where
-      pub number-of-lent : overlayNumber n a b lent ≡ when (tooShort (4 ^ n) lent) 8
+      number-of-lent : overlayNumber n a b lent ≡ when (tooShort (4 ^ n) lent) 8
       number-of-lent = past-first ∙ first-none (numberOf n b) (when (tooShort (4 ^ n) lent) 8) second-accepted
 
-      pub one-short : (room : ℕ) → room ≡ min (length (lent .codes)) (min (length (lent .levels)) (length (lent .colours))) → room < 4 ^ n
-          → Overlay n a b lent lent (record { number = 8; count = 0 })
-      one-short room e h = refused (omega arith) (sym (number-of-lent ∙ when-yes (tooShort (4 ^ n) lent) 8 (least-short (4 ^ n) lent (omega arith))))
+      lent-short : (room : ℕ) → room ≡ leastLength lent → overlayNumber n a b lent ≡ when (ltb room (4 ^ n)) 8
+      lent-short room e =
+          number-of-lent
+          ∙ ap (λ (t : Bool). when t 8)
+          (short-by-least (4 ^ n) (length (lent .codes)) (length (lent .levels)) (length (lent .colours)) ∙ ap (λ (k : ℕ). ltb k (4 ^ n)) (sym e))
+
+      pub one-short : (room : ℕ) → room ≡ leastLength lent → room < 4 ^ n → Overlay n a b lent lent (record { number = 8; count = 0 })
+      one-short room e h = refused (omega arith) (sym (lent-short room e ∙ when-yes (ltb room (4 ^ n)) 8 (lt-ltb room (4 ^ n) h)))
+
+      pub none-short : RoomFor (4 ^ n) lent → overlayNumber n a b lent ≡ 0
+      none-short room =
+          lent-short (leastLength lent) refl
+          ∙ when-no (ltb (leastLength lent) (4 ^ n)) 8 (le-ltb (leastLength lent) (4 ^ n) (omega (arith, room .in-codes, room .in-levels, room .in-colours)))
+
+      pub room-unless-short : overlayNumber n a b lent ≡ 0 → RoomFor (4 ^ n) lent
+      room-unless-short e =
+          room-by-least
+          (ltb-false (leastLength lent) (4 ^ n) (when-zero (ltb (leastLength lent) (4 ^ n)) 8 (omega arith) (sym (lent-short (leastLength lent) refl) ∙ e)))
+
+      pub short-unless-room : (RoomFor (4 ^ n) lent → ⊥) → overlayNumber n a b lent ≡ 8
+      short-unless-room none = pick (decLt (leastLength lent) (4 ^ n))
+        where
+          pick : Dec (leastLength lent < 4 ^ n) → overlayNumber n a b lent ≡ 8
+          pick (yes h) = lent-short (leastLength lent) refl ∙ when-yes (ltb (leastLength lent) (4 ^ n)) 8 (lt-ltb (leastLength lent) (4 ^ n) h)
+          pick (no h) = absurd (none (room-by-least (omega arith)))
 
       -- All blocks written.
       pub laid-over : {after : BlockList} {count : ℕ} → RoomFor (4 ^ n) lent → count ≡ length (overlaid n a b) → after ≡ stored 0 (overlaid n a b) lent
           → Overlay n a b lent after (record { number = 0; count = count })
       unfolding blocksWritten
       laid-over {after} {count} room counted lists =
-          let none : overlayNumber n a b lent ≡ 0 = number-of-lent ∙ when-no (tooShort (4 ^ n) lent) 8 (none-short (4 ^ n) lent room) in
+          let none : overlayNumber n a b lent ≡ 0 = none-short room in
           let all : blocksWritten n a b lent ≡ overlaid n a b = written-accepted (overlayNumber n a b lent) (overlaid n a b) none in
           let front = stored-in-front (overlaid n a b) lent after lists in
           record {

@@ -8,7 +8,7 @@ use Rattle.quadtree.specs.Blocks.{Block}
 use Rattle.quadtree.specs.Quadtree.{quadtree}
 use Rattle.runs.specs.Pieces.{coloursOf, span, length-colours}
 use Rattle.runs.specs.Written.{written}
-use Rattle.runs.specs.BlockLists.{BlockList, blocksOf, imageOf, Covering, length-image}
+use Rattle.quadtree.specs.BlockLists.{BlockList, blocksOf, imageOf, Covering, length-image}
 use Rattle.runs.specs.WrittenQuadtree.{written-is-quadtree}
 use Rattle.overlaying.specs.Larger.{larger, larger-none, larger-stretch, length-larger}
 use Rattle.overlaying.specs.Shared.{onward, nearer, shared, one-goes-on, shared-more, shared-end}

@@ -2,7 +2,7 @@
 use answers::Written;
 use pass::lay_over;
 use pass::least;
-ghost use Rattle.runs.specs.BlockLists.{listOf};
+ghost use Rattle.quadtree.specs.BlockLists.{listOf};
 ghost use Rattle.overlaying.specs.Promise.{Overlay};
 
 mod pass;

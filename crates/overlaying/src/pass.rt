@@ -5,7 +5,7 @@ use appending::append;
 use appending::write_run;
 ghost use mathlib.Core.Path.{_≡_};
 ghost use Prim.Native.Nat.{_+_, _^_, _≤_, _<_, max, min};
-ghost use Rattle.runs.specs.BlockLists.{listOf};
+ghost use Rattle.quadtree.specs.BlockLists.{listOf};
 ghost use Rattle.overlaying.specs.Pass.{Overlayable, AllWritten, nextIndex};
 
 // The smaller of two numbers.

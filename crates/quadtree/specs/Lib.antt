@@ -17,3 +17,4 @@ pub mod Fields
 pub mod Lists
 pub mod Accepted
 pub mod Meaning
+pub mod BlockLists

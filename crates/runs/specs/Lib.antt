@@ -4,5 +4,4 @@ pub mod Squares
 pub mod Written
 pub mod Maximal
 pub mod WrittenQuadtree
-pub mod BlockLists
 pub mod Stored

@@ -8,7 +8,7 @@ use Rattle.sequences.specs.Over.{over, over-push, over-more, length-over}
 use Rattle.quadtree.specs.Blocks.{Block}
 use Rattle.quadtree.specs.Fields.{codes, levels, colours}
 use Rattle.quadtree.specs.Painting.{block}
-use Rattle.runs.specs.BlockLists.{BlockList, listOf, SameLengths, RoomFor}
+use Rattle.quadtree.specs.BlockLists.{BlockList, listOf, SameLengths, RoomFor}
 
 -- Numbers stored in a list after its first `count` entries; these stay, and so does what lies beyond.
 unfoldable pub storedAfter : ℕ → List ℕ → List ℕ → List ℕ

@@ -4,7 +4,7 @@ use Prim.Native.Nat.{_-_, _≤_, _<_}
 use native.Mathlib.Omega.{arith}
 use borrow.Author.Needs.{needs}
 use Rattle.location.specs.Levels.{pixelsOf}
-use Rattle.runs.specs.BlockLists.{listOf}
+use Rattle.quadtree.specs.BlockLists.{listOf}
 use Rattle.appending.specs.WriteLoop.{Writing, Turn, writing-none, square-in-run, turn, writing-more, run-written}
 use Rattle.appending.proofs.write_run.Statement.{statement}
 use Rattle.appending.proofs.write_run.Tie as tie

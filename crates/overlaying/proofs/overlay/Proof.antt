@@ -7,7 +7,7 @@ use borrow.Author.Needs.{needs}
 use Rattle.sequences.specs.Powers.{pow4-mono}
 use Rattle.location.specs.Levels.{pixels-are-power}
 use Rattle.quadtree.specs.Accepted.{number-zero}
-use Rattle.runs.specs.BlockLists.{listOf, numberOf, accepted-covers, RoomFor}
+use Rattle.quadtree.specs.BlockLists.{listOf, numberOf, accepted-covers, RoomFor}
 use Rattle.overlaying.specs.Promise.{first-refused, second-refused, one-short, laid-over}
 use Rattle.overlaying.specs.Pass.{all-lengths}
 use Rattle.overlaying.proofs.overlay.Statement.{statement}

@@ -4,7 +4,7 @@ use Prim.Native.Nat.{_-_, _^_, _≤_, _<_}
 use native.Mathlib.Omega.{arith}
 use lib.ListN.{length}
 use borrow.Author.Needs.{needs}
-use Rattle.runs.specs.BlockLists.{listOf}
+use Rattle.quadtree.specs.BlockLists.{listOf}
 use Rattle.appending.specs.Progress.{progress-few}
 use Rattle.overlaying.specs.Pass.{Passing, Reached, passing-none, in-second, first-reached, second-reached, done-on, piece-appendable, end-on, passing-more, passed}
 use Rattle.overlaying.proofs.pass.lay_over.Statement.{statement}
