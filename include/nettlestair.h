@@ -68,7 +68,8 @@ struct nettlestair_written nettlestair_raster_from_blocks(uint32_t n, const uint
                                                           size_t raster_len);
 
 /* The merged list of one block list laid over another, whose every pixel has the larger of the two colours: 0, or 1, 2 to 7 of the
-   first list, 2 to 7 of the second, 8. Each of the three lists written has room for 4^n entries. */
+   first list, 2 to 7 of the second, 8. Each of the three lists written has room for 4^n entries. Several lists laid over one another
+   give one list, whatever their order and grouping. */
 struct nettlestair_written nettlestair_overlay(uint32_t n, const uint32_t *first_codes, size_t first_codes_len,
                                                const uint8_t *first_levels, size_t first_levels_len,
                                                const uint16_t *first_colours, size_t first_colours_len,

@@ -239,7 +239,8 @@ pub fn raster_from_blocks(n: u32, codes: &[u32], levels: &[u8], colours: &[u16],
 }
 
 /// The merged list of one block list laid over another, whose every pixel has the larger of the two colours: 0, or 1, 2 to 7 of the
-/// first list, 2 to 7 of the second, 8. Each of the three lists written has room for 4^n entries.
+/// first list, 2 to 7 of the second, 8. Each of the three lists written has room for 4^n entries. Several lists laid over one another
+/// give one list, whatever their order and grouping.
 #[allow(clippy::too_many_arguments)]
 pub fn overlay(
     n: u32,

@@ -87,12 +87,15 @@ pub fn any(random: &mut Random, n: u32) -> Vec<u16> {
     }
 }
 
-/// A raster parted in two: each pixel keeps its colour in one of them, and has any colour up to it in the other. Laid over one another
-/// they give the raster again, however little of it either shows.
-pub fn parted(random: &mut Random, raster: &[u16]) -> [Vec<u16>; 2] {
-    let mut parts = [raster.to_vec(), raster.to_vec()];
+/// A raster parted in some: each pixel keeps its colour in one of them, and has any colour up to it in the others. Laid over one
+/// another they give the raster again, however little of it each shows.
+pub fn parted<const PARTS: usize>(random: &mut Random, raster: &[u16]) -> [Vec<u16>; PARTS] {
+    let mut parts = [(); PARTS].map(|()| raster.to_vec());
     for (place, &colour) in raster.iter().enumerate() {
-        parts[random.below(2)][place] = random.below(usize::from(colour) + 1) as u16;
+        let keeps = random.below(PARTS);
+        for part in (0..PARTS).filter(|&part| part != keeps) {
+            parts[part][place] = random.below(usize::from(colour) + 1) as u16;
+        }
     }
     parts
 }

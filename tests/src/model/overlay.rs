@@ -1,10 +1,16 @@
-//! One block list laid over another (document 02, b): both painted, and the larger colour taken pixel by pixel.
+//! Block lists laid over one another (document 02, b and l): painted, and the larger or the largest colour taken pixel by pixel.
 
 use super::blocks::{number, paint, quadtree, Blocks};
 
 /// The larger colour of each pixel of two rasters.
 pub fn larger(first: &[u16], second: &[u16]) -> Vec<u16> {
     first.iter().zip(second).map(|(&a, &b)| if a < b { b } else { a }).collect()
+}
+
+/// The largest colour of each pixel of some rasters of one size.
+pub fn largest(rasters: &[Vec<u16>]) -> Vec<u16> {
+    let colours = |place: usize| rasters.iter().map(move |raster| raster[place]);
+    (0..rasters[0].len()).filter_map(|place| colours(place).max()).collect()
 }
 
 /// The merged list with lists of these lengths lent for codes, levels and colours, or the number of a refusal: "1, then 2 to 7 on the
@@ -34,6 +40,13 @@ mod tests {
         assert_eq!(overlay(1, &list([255, 256, 255, 256]), &one(256), [4; 3]), Ok(one(256)));
         assert_eq!(overlay(1, &one(257), &list([256, 257, 258, 1]), [4; 3]), Ok(list([257, 257, 258, 257])));
         assert_eq!(overlay(1, &one(1), &one(2), [4, 3, 4]), Err(8));
+    }
+
+    #[test]
+    fn largest_of_three() {
+        let rasters = [[9, 1, 2, 0], [3; 4], [0, 0, 2, 5]].map(|raster| raster.to_vec());
+        assert_eq!(largest(&rasters), [9, 3, 3, 5]);
+        assert_eq!(largest(&rasters[2..]), [0, 0, 2, 5]);
     }
 
     /// The first list's number before the second's.

@@ -1,0 +1,156 @@
+//! Scans laid over one another (document 02, l): in every order and grouping they give the merged list of the largest colours.
+
+use tests::calls::{agrees, overlay};
+use tests::cases::Cases;
+use tests::compare::Shown;
+use tests::model::blocks::{quadtree, Blocks};
+use tests::model::overlay::largest;
+use tests::random::Random;
+use tests::rasters;
+
+/// What a call writes that lays one list over another. It answers 0, and the entries beyond its count are as they were, in lists that are
+/// longer than needed by up to 3.
+fn laid_over(random: &mut Random, n: u32, first: &Blocks, second: &Blocks) -> Blocks {
+    let lengths = [0; 3].map(|_| (1 << (2 * n)) + random.below(4));
+    let mut out = overlay(random, n, first, second, lengths);
+    let blocks = out.blocks();
+    agrees(format_args!("n = {n}, {first} over {second}"), out.difference(&blocks));
+    blocks
+}
+
+/// What each grouping of scans in this order gives.
+fn each_grouping(random: &mut Random, n: u32, scans: &[&Blocks]) -> Vec<Blocks> {
+    if let [scan] = scans {
+        return vec![(*scan).clone()];
+    }
+    let mut results = vec![];
+    for cut in 1..scans.len() {
+        let firsts = each_grouping(random, n, &scans[..cut]);
+        let seconds = each_grouping(random, n, &scans[cut..]);
+        for first in &firsts {
+            results.extend(seconds.iter().map(|second| laid_over(random, n, first, second)));
+        }
+    }
+    results
+}
+
+/// Every order of so many things, by their places.
+fn orders(count: usize) -> Vec<Vec<usize>> {
+    if count == 0 {
+        return vec![vec![]];
+    }
+    let fewer = orders(count - 1);
+    let with_last = |order: &Vec<usize>, place| [&order[..place], &[count - 1], &order[place..]].concat();
+    fewer.iter().flat_map(|order| (0..count).map(move |place| with_last(order, place))).collect()
+}
+
+/// Lays rasters over one another in every order and grouping, and tells in how many ways.
+fn in_every_way(random: &mut Random, n: u32, rasters: &[Vec<u16>]) -> usize {
+    let expected = quadtree(n, &largest(rasters));
+    let scans: Vec<Blocks> = rasters.iter().map(|raster| quadtree(n, raster)).collect();
+    let mut ways = 0;
+    for order in orders(scans.len()) {
+        let in_order: Vec<&Blocks> = order.iter().map(|&place| &scans[place]).collect();
+        for result in each_grouping(random, n, &in_order) {
+            assert_eq!(result, expected, "n = {n}, in the order {order:?}: {scans:?}");
+            ways += 1;
+        }
+    }
+    ways
+}
+
+/// Rasters that have nothing to do with each other, and parts of one picture, whose blocks are larger than theirs.
+fn of_both_kinds<const COUNT: usize>(cases: &mut Cases, random: &mut Random, n: u32, ways: usize) {
+    let apart = [(); COUNT].map(|()| rasters::any(random, n));
+    let picture = rasters::any(random, n);
+    let parts: [Vec<u16>; COUNT] = rasters::parted(random, &picture);
+    assert_eq!(largest(&parts), picture);
+    for rasters in [apart, parts] {
+        assert_eq!(in_every_way(random, n, &rasters), ways);
+        cases.ran();
+    }
+}
+
+#[test]
+fn two_scans() {
+    let mut cases = Cases::of("two scans in both orders");
+    let mut random = Random::of("two scans in both orders");
+    for n in 0..=8 {
+        for _ in 0..[200, 200, 200, 200, 100, 50, 20, 10, 5][n as usize] {
+            of_both_kinds::<2>(&mut cases, &mut random, n, 2);
+        }
+    }
+    cases.end();
+}
+
+#[test]
+fn three_scans() {
+    let mut cases = Cases::of("three scans in 6 orders and 2 groupings");
+    let mut random = Random::of("three scans in 6 orders and 2 groupings");
+    for n in 0..=8 {
+        for _ in 0..[100, 100, 100, 50, 20, 10, 5, 3, 2][n as usize] {
+            of_both_kinds::<3>(&mut cases, &mut random, n, 6 * 2);
+        }
+    }
+    cases.end();
+}
+
+#[test]
+fn four_and_five_scans() {
+    let mut cases = Cases::of("four and five scans");
+    let mut random = Random::of("four and five scans");
+    for n in 0..=5 {
+        for _ in 0..[10, 10, 10, 5, 2, 1][n as usize] {
+            of_both_kinds::<4>(&mut cases, &mut random, n, 24 * 5);
+        }
+    }
+    for n in 0..=3 {
+        of_both_kinds::<5>(&mut cases, &mut random, n, 120 * 14);
+    }
+    cases.end();
+}
+
+/// Up to 30 scans, some of them more than once, each time any two of what is there: any order and any grouping.
+#[test]
+fn many_scans() {
+    let mut cases = Cases::of("many scans");
+    let mut random = Random::of("many scans");
+    for n in 0..=6 {
+        for _ in 0..[100, 100, 100, 50, 20, 10, 5][n as usize] {
+            let different: Vec<Vec<u16>> = (0..1 + random.below(20)).map(|_| rasters::any(&mut random, n)).collect();
+            let again = (0..random.below(11)).map(|_| different[random.below(different.len())].clone());
+            let all: Vec<Vec<u16>> = different.iter().cloned().chain(again).collect();
+            let expected = quadtree(n, &largest(&all));
+            for _ in 0..2 {
+                let mut lists: Vec<Blocks> = all.iter().map(|raster| quadtree(n, raster)).collect();
+                while lists.len() > 1 {
+                    let [first, second] = [(); 2].map(|()| lists.swap_remove(random.below(lists.len())));
+                    lists.push(laid_over(&mut random, n, &first, &second));
+                }
+                assert_eq!(lists, [expected.clone()], "n = {n}, {all:?}");
+            }
+            cases.ran();
+        }
+    }
+    cases.end();
+}
+
+/// "A scan over itself gives itself. A scan over the single block of level n and colour 0 gives itself.": from either side.
+#[test]
+fn over_itself_and_over_the_ground() {
+    let mut cases = Cases::of("a scan over itself and over the ground");
+    let mut random = Random::of("a scan over itself and over the ground");
+    for n in 0..=8 {
+        let ground = Blocks { codes: vec![0], levels: vec![n as u8], colours: vec![0] };
+        let structured = rasters::structured(&mut random, n).into_iter().map(|(_, raster)| raster);
+        for raster in rasters::of_every_kind(&mut random, n).into_iter().chain(structured) {
+            let scan = quadtree(n, &raster);
+            for (first, second) in [(&scan, &scan), (&scan, &ground), (&ground, &scan)] {
+                assert_eq!(laid_over(&mut random, n, first, second), scan, "n = {n}, {}", Shown(&raster));
+            }
+            cases.ran();
+        }
+        assert_eq!(laid_over(&mut random, n, &ground, &ground), ground);
+    }
+    cases.end();
+}
