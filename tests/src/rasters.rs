@@ -87,7 +87,7 @@ pub fn any(random: &mut Random, n: u32) -> Vec<u16> {
     }
 }
 
-/// A raster parted in some: each pixel keeps its colour in one of them, and has any colour up to it in the others. Laid over one
+/// A raster parted into several: each pixel keeps its colour in one of them, and has any colour up to it in the others. Laid over one
 /// another they give the raster again, however little of it each shows.
 pub fn parted<const PARTS: usize>(random: &mut Random, raster: &[u16]) -> [Vec<u16>; PARTS] {
     let mut parts = [(); PARTS].map(|()| raster.to_vec());

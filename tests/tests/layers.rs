@@ -8,7 +8,7 @@ use tests::model::overlay::largest;
 use tests::random::Random;
 use tests::rasters;
 
-/// What a call writes that lays one list over another. It answers 0, and the entries beyond its count are as they were, in lists that are
+/// What laying one list over another writes. The call answers 0, and the entries beyond its count are as they were, in lists that are
 /// longer than needed by up to 3.
 fn laid_over(random: &mut Random, n: u32, first: &Blocks, second: &Blocks) -> Blocks {
     let lengths = [0; 3].map(|_| (1 << (2 * n)) + random.below(4));
@@ -52,7 +52,7 @@ fn in_every_way(random: &mut Random, n: u32, rasters: &[Vec<u16>]) -> usize {
     for order in orders(scans.len()) {
         let in_order: Vec<&Blocks> = order.iter().map(|&place| &scans[place]).collect();
         for result in each_grouping(random, n, &in_order) {
-            assert_eq!(result, expected, "n = {n}, in the order {order:?}: {scans:?}");
+            assert_eq!(result, expected, "n = {n}, in the order {order:?}");
             ways += 1;
         }
     }
@@ -110,14 +110,14 @@ fn four_and_five_scans() {
     cases.end();
 }
 
-/// Up to 30 scans, some of them more than once, each time any two of what is there: any order and any grouping.
+/// Up to 30 scans, some of them more than once: any two of what is left are laid over one another, until one list is left.
 #[test]
 fn many_scans() {
     let mut cases = Cases::of("many scans");
     let mut random = Random::of("many scans");
     for n in 0..=6 {
         for _ in 0..[100, 100, 100, 50, 20, 10, 5][n as usize] {
-            let different: Vec<Vec<u16>> = (0..1 + random.below(20)).map(|_| rasters::any(&mut random, n)).collect();
+            let different: Vec<Vec<u16>> = (0..2 + random.below(19)).map(|_| rasters::any(&mut random, n)).collect();
             let again = (0..random.below(11)).map(|_| different[random.below(different.len())].clone());
             let all: Vec<Vec<u16>> = different.iter().cloned().chain(again).collect();
             let expected = quadtree(n, &largest(&all));
@@ -127,7 +127,7 @@ fn many_scans() {
                     let [first, second] = [(); 2].map(|()| lists.swap_remove(random.below(lists.len())));
                     lists.push(laid_over(&mut random, n, &first, &second));
                 }
-                assert_eq!(lists, [expected.clone()], "n = {n}, {all:?}");
+                assert_eq!(lists, [expected.clone()], "n = {n}, {} scans", all.len());
             }
             cases.ran();
         }
@@ -137,20 +137,20 @@ fn many_scans() {
 
 /// "A scan over itself gives itself. A scan over the single block of level n and colour 0 gives itself.": from either side.
 #[test]
-fn over_itself_and_over_the_ground() {
-    let mut cases = Cases::of("a scan over itself and over the ground");
-    let mut random = Random::of("a scan over itself and over the ground");
+fn over_itself_and_over_the_single_block() {
+    let mut cases = Cases::of("a scan over itself and over the single block");
+    let mut random = Random::of("a scan over itself and over the single block");
     for n in 0..=8 {
-        let ground = Blocks { codes: vec![0], levels: vec![n as u8], colours: vec![0] };
+        let single = Blocks { codes: vec![0], levels: vec![n as u8], colours: vec![0] };
         let structured = rasters::structured(&mut random, n).into_iter().map(|(_, raster)| raster);
         for raster in rasters::of_every_kind(&mut random, n).into_iter().chain(structured) {
             let scan = quadtree(n, &raster);
-            for (first, second) in [(&scan, &scan), (&scan, &ground), (&ground, &scan)] {
+            for (first, second) in [(&scan, &scan), (&scan, &single), (&single, &scan)] {
                 assert_eq!(laid_over(&mut random, n, first, second), scan, "n = {n}, {}", Shown(&raster));
             }
             cases.ran();
         }
-        assert_eq!(laid_over(&mut random, n, &ground, &ground), ground);
+        assert_eq!(laid_over(&mut random, n, &single, &single), single, "n = {n}");
     }
     cases.end();
 }

@@ -13,31 +13,30 @@ pub record Out : Type 0 where
   pub lists : BlockList
   pub answer : Written
 
--- The list that it wrote: the three lists up to the count.
-abbrev pub written : Out → BlockList
-written o = resultOf (o .lists) (o .answer)
+abbrev pub result : Out → BlockList
+result o = resultOf (o .lists) (o .answer)
 
--- A call that laid a over b, with "output lists of the stated length" (document 02, request l), whatever stood in them: "three lists of
--- 4^n" (request b).
+-- A call that laid a over b. It was lent "output lists of the stated length" (document 02, request l), "three lists of 4^n" (request b),
+-- whatever stood in them.
 pub record Call (n : ℕ) (a b : BlockList) (o : Out) : Type 0 where
   pub lent : BlockList
-  pub long : RoomFor (4 ^ n) lent
+  pub room : RoomFor (4 ^ n) lent
   pub promise : Overlay n a b lent (o .lists) (o .answer)
 
 -- Scans laid over one another: the scans in this order, and the list in the end. The grouping is a binary tree. At each leaf stands a scan,
 -- an accepted list; at each fork stands a call, which is given what both branches end with.
 pub data Laid (n : ℕ) : List BlockList → BlockList → Type 0 where
-  scan : {a : BlockList} → numberOf n a ≡ 0 → Laid n (a ∷ []) a
-  fork : {xs ys : List BlockList} {a b : BlockList} {o : Out} → Laid n xs a → Laid n ys b → Call n a b o → Laid n (xs ++ ys) (written o)
+  leaf : {a : BlockList} → numberOf n a ≡ 0 → Laid n (a ∷ []) a
+  fork : {xs ys : List BlockList} {a b : BlockList} {o : Out} → Laid n xs a → Laid n ys b → Call n a b o → Laid n (xs ++ ys) (result o)
 
 -- Each of its calls answers 0.
 unfoldable pub AllAnswered : {n : ℕ} {xs : List BlockList} {a : BlockList} → Laid n xs a → Type 0
-AllAnswered (scan e) = Unit {0}
-AllAnswered (fork {o = o} f g c) = AllAnswered f × AllAnswered g × (o .answer .number ≡ 0)
+AllAnswered (leaf e) = Unit {0}
+AllAnswered (fork {o = o} s t c) = AllAnswered s × AllAnswered t × (o .answer .number ≡ 0)
 
 -- "the single block of level n and colour 0" (document 02, request l).
-abbrev pub ground : ℕ → BlockList
-ground n = listOf (0 ∷ []) (n ∷ []) (0 ∷ [])
+abbrev pub singleBlock : ℕ → BlockList
+singleBlock n = listOf (0 ∷ []) (n ∷ []) (0 ∷ [])
 
 -- A call gives the list a, "block for block" (document 02, request l): it answers 0 and the number of blocks of a, and up to there its
 -- lists are those of a.
@@ -48,8 +47,8 @@ pub record Gives (a : BlockList) (o : Out) : Type 0 where
   pub in-levels : take (o .answer .count) (o .lists .levels) ≡ a .levels
   pub in-colours : take (o .answer .count) (o .lists .colours) ≡ a .colours
 
--- Two calls give one list, block for block.
-pub record Alike (o p : Out) : Type 0 where
+-- Two calls give one list, "block for block".
+pub record SameList (o p : Out) : Type 0 where
   pub first-answered : o .answer .number ≡ 0
   pub second-answered : p .answer .number ≡ 0
   pub counted : o .answer .count ≡ p .answer .count
