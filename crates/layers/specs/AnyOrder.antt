@@ -38,7 +38,7 @@ one-list {n} {xs} {ys} {a} {b} s t p =
     (laid-paints s ∙ largest-permuted n p ∙ sym (laid-paints t)) in
     λ i. record { codes = same .0 i; levels = same .1 i; colours = same .2 i }
 
-pub all-answered : {n : ℕ} {xs : List BlockList} {a : BlockList} (t : Laid n xs a) → AllAnswered t
+all-answered : {n : ℕ} {xs : List BlockList} {a : BlockList} (t : Laid n xs a) → AllAnswered t
 unfolding AllAnswered
 all-answered (leaf e) = tt
 all-answered (fork s t c) = (all-answered s, all-answered t, call-answers (laid-accepted s) (laid-accepted t) c)
