@@ -154,6 +154,12 @@ pub fn structured(random: &mut Random, n: u32) -> Vec<(&'static str, Vec<u16>)> 
     ]
 }
 
+/// Rasters of every kind, structured ones too.
+pub fn with_structured(random: &mut Random, n: u32) -> Vec<Vec<u16>> {
+    let structured = structured(random, n).into_iter().map(|(_, raster)| raster);
+    of_every_kind(random, n).into_iter().chain(structured).collect()
+}
+
 /// Two colours, each pixel with the one that most of the nine around it have.
 fn smoothed(n: u32, raster: &[u16]) -> Vec<u16> {
     let side = 1usize << n;

@@ -59,55 +59,44 @@ fn in_every_way(random: &mut Random, n: u32, rasters: &[Vec<u16>]) -> usize {
     ways
 }
 
-/// Rasters that have nothing to do with each other, and parts of one picture, whose blocks are larger than theirs.
-fn of_both_kinds<const COUNT: usize>(cases: &mut Cases, random: &mut Random, n: u32, ways: usize) {
-    let apart = [(); COUNT].map(|()| rasters::any(random, n));
-    let picture = rasters::any(random, n);
-    let parts: [Vec<u16>; COUNT] = rasters::parted(random, &picture);
-    assert_eq!(largest(&parts), picture);
-    for rasters in [apart, parts] {
-        assert_eq!(in_every_way(random, n, &rasters), ways);
-        cases.ran();
+/// So many scans, in so many ways, for n from 0 on in so many rounds: rasters that have nothing to do with each other, and parts of one
+/// picture, whose blocks are larger than theirs.
+fn scans<const COUNT: usize>(name: &'static str, ways: usize, rounds: &[usize]) {
+    let mut cases = Cases::of(name);
+    let mut random = Random::of(name);
+    for (n, &rounds) in (0..).zip(rounds) {
+        for _ in 0..rounds {
+            let apart = [(); COUNT].map(|()| rasters::any(&mut random, n));
+            let picture = rasters::any(&mut random, n);
+            let parts: [Vec<u16>; COUNT] = rasters::parted(&mut random, &picture);
+            assert_eq!(largest(&parts), picture);
+            for rasters in [apart, parts] {
+                assert_eq!(in_every_way(&mut random, n, &rasters), ways);
+                cases.ran();
+            }
+        }
     }
+    cases.end();
 }
 
 #[test]
 fn two_scans() {
-    let mut cases = Cases::of("two scans in both orders");
-    let mut random = Random::of("two scans in both orders");
-    for n in 0..=8 {
-        for _ in 0..[200, 200, 200, 200, 100, 50, 20, 10, 5][n as usize] {
-            of_both_kinds::<2>(&mut cases, &mut random, n, 2);
-        }
-    }
-    cases.end();
+    scans::<2>("two scans in 2 orders", 2, &[200, 200, 200, 200, 100, 50, 20, 10, 5]);
 }
 
 #[test]
 fn three_scans() {
-    let mut cases = Cases::of("three scans in 6 orders and 2 groupings");
-    let mut random = Random::of("three scans in 6 orders and 2 groupings");
-    for n in 0..=8 {
-        for _ in 0..[100, 100, 100, 50, 20, 10, 5, 3, 2][n as usize] {
-            of_both_kinds::<3>(&mut cases, &mut random, n, 6 * 2);
-        }
-    }
-    cases.end();
+    scans::<3>("three scans in 6 orders and 2 groupings", 6 * 2, &[100, 100, 100, 50, 20, 10, 5, 3, 2]);
 }
 
 #[test]
-fn four_and_five_scans() {
-    let mut cases = Cases::of("four and five scans");
-    let mut random = Random::of("four and five scans");
-    for n in 0..=5 {
-        for _ in 0..[10, 10, 10, 5, 2, 1][n as usize] {
-            of_both_kinds::<4>(&mut cases, &mut random, n, 24 * 5);
-        }
-    }
-    for n in 0..=3 {
-        of_both_kinds::<5>(&mut cases, &mut random, n, 120 * 14);
-    }
-    cases.end();
+fn four_scans() {
+    scans::<4>("four scans in 24 orders and 5 groupings", 24 * 5, &[10, 10, 10, 5, 2, 1]);
+}
+
+#[test]
+fn five_scans() {
+    scans::<5>("five scans in 120 orders and 14 groupings", 120 * 14, &[1, 1, 1, 1]);
 }
 
 /// Up to 30 scans, some of them more than once: any two of what is left are laid over one another, until one list is left.
@@ -142,8 +131,7 @@ fn over_itself_and_over_the_single_block() {
     let mut random = Random::of("a scan over itself and over the single block");
     for n in 0..=8 {
         let single = Blocks { codes: vec![0], levels: vec![n as u8], colours: vec![0] };
-        let structured = rasters::structured(&mut random, n).into_iter().map(|(_, raster)| raster);
-        for raster in rasters::of_every_kind(&mut random, n).into_iter().chain(structured) {
+        for raster in rasters::with_structured(&mut random, n) {
             let scan = quadtree(n, &raster);
             for (first, second) in [(&scan, &scan), (&scan, &single), (&single, &scan)] {
                 assert_eq!(laid_over(&mut random, n, first, second), scan, "n = {n}, {}", Shown(&raster));

@@ -38,12 +38,6 @@ fn outlined(random: &mut Random, n: u32, blocks: &Blocks) {
     agrees(format_args!("outlines of n = {n}, {blocks}"), traced.difference(&model.tracing(lengths)));
 }
 
-/// Rasters of every kind, structured ones too.
-fn with_structured(random: &mut Random, n: u32) -> Vec<Vec<u16>> {
-    let structured = rasters::structured(random, n).into_iter().map(|(_, raster)| raster);
-    rasters::of_every_kind(random, n).into_iter().chain(structured).collect()
-}
-
 #[test]
 fn pairs_of_pixels() {
     let mut cases = Cases::of("one pixel over another");
@@ -98,7 +92,7 @@ fn images_of_all_kinds() {
     let mut cases = Cases::of("one image over another");
     let mut random = Random::of("one image over another");
     for n in 0..=8 {
-        let [firsts, seconds] = [0, 0].map(|_| with_structured(&mut random, n));
+        let [firsts, seconds] = [0, 0].map(|_| rasters::with_structured(&mut random, n));
         let rounds = [seconds.len(), 20, 5, 2, 1, 1][n.max(3) as usize - 3];
         for round in 0..rounds {
             let shift = if n < 4 { round } else { random.below(seconds.len()) };
@@ -118,7 +112,7 @@ fn one_colour_over_many() {
     let mut cases = Cases::of("one colour over many");
     let mut random = Random::of("one colour over many");
     for n in 0..=8 {
-        for many in with_structured(&mut random, n) {
+        for many in rasters::with_structured(&mut random, n) {
             for colour in [many[random.below(many.len())], 32_768] {
                 let one = vec![colour; many.len()];
                 laid_over(&mut random, n, &one, &many, [1, 0, 0]);
@@ -137,7 +131,7 @@ fn pictures_parted_in_two() {
     let mut random = Random::of("pictures parted in two");
     for n in 0..=8 {
         for _ in 0..[40, 40, 40, 20, 10, 5, 2, 1, 1][n as usize] {
-            for picture in with_structured(&mut random, n) {
+            for picture in rasters::with_structured(&mut random, n) {
                 let [first, second] = rasters::parted(&mut random, &picture);
                 let blocks = laid_over(&mut random, n, &first, &second, [0, 3, 0]);
                 assert_eq!(blocks, quadtree(n, &picture), "n = {n}, {}", Shown(&picture));
