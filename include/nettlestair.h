@@ -67,6 +67,16 @@ struct nettlestair_written nettlestair_raster_from_blocks(uint32_t n, const uint
                                                           const uint16_t *colours, size_t colours_len, uint16_t *raster,
                                                           size_t raster_len);
 
+/* A raster (row by row, north row first) of 4^n entries in block order, which is rising location code: 0, or 1, 9, 8. The
+   stored raster has room for 4^n entries. */
+struct nettlestair_written nettlestair_to_block_order(uint32_t n, const uint16_t *raster, size_t raster_len,
+                                                      uint16_t *stored, size_t stored_len);
+
+/* The raster (row by row, north row first) of 4^n entries that are stored in block order: 0, or 1, 9, 8. The raster has
+   room for 4^n entries. Each way followed by the other gives the first raster. */
+struct nettlestair_written nettlestair_from_block_order(uint32_t n, const uint16_t *stored, size_t stored_len,
+                                                        uint16_t *raster, size_t raster_len);
+
 /* The merged list of one block list laid over another, whose every pixel has the larger of the two colours: 0, or 1, 2 to 7 of the
    first list, 2 to 7 of the second, 8. Each of the three lists written has room for 4^n entries. Several lists laid over one another
    give one list, whatever their order and grouping. */

@@ -95,6 +95,22 @@ extern "C" {
         raster_len: usize,
     ) -> Written;
 
+    fn nettlestair_to_block_order(
+        n: u32,
+        raster: *const u16,
+        raster_len: usize,
+        stored: *mut u16,
+        stored_len: usize,
+    ) -> Written;
+
+    fn nettlestair_from_block_order(
+        n: u32,
+        stored: *const u16,
+        stored_len: usize,
+        raster: *mut u16,
+        raster_len: usize,
+    ) -> Written;
+
     fn nettlestair_overlay(
         n: u32,
         first_codes: *const u32,
@@ -236,6 +252,18 @@ pub fn raster_from_blocks(n: u32, codes: &[u32], levels: &[u8], colours: &[u16],
             raster.len(),
         )
     }
+}
+
+/// A raster (row by row, north row first) of 4^n entries in block order, which is rising location code: 0, or 1, 9, 8. The
+/// stored raster has room for 4^n entries.
+pub fn to_block_order(n: u32, raster: &[u16], stored: &mut [u16]) -> Written {
+    unsafe { nettlestair_to_block_order(n, raster.as_ptr(), raster.len(), stored.as_mut_ptr(), stored.len()) }
+}
+
+/// The raster (row by row, north row first) of 4^n entries that are stored in block order: 0, or 1, 9, 8. The raster has
+/// room for 4^n entries. Each way followed by the other gives the first raster.
+pub fn from_block_order(n: u32, stored: &[u16], raster: &mut [u16]) -> Written {
+    unsafe { nettlestair_from_block_order(n, stored.as_ptr(), stored.len(), raster.as_mut_ptr(), raster.len()) }
 }
 
 /// The merged list of one block list laid over another, whose every pixel has the larger of the two colours: 0, or 1, 2 to 7 of the

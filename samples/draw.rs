@@ -22,6 +22,22 @@ fn wide_pgm(side: usize, maxval: u16, raster: &[u16]) -> Vec<u8> {
     [format!("P5\n{side} {side}\n{maxval}\n").into_bytes(), samples].concat()
 }
 
+/// The pixels of a square in block order: those of its quadrants northwest, northeast, southwest and southeast, each in
+/// block order itself.
+fn block_order(x: usize, y: usize, side: usize) -> Vec<(usize, usize)> {
+    if side == 1 {
+        return vec![(x, y)];
+    }
+    let half = side / 2;
+    let quadrants = [(x, y), (x + half, y), (x, y + half), (x + half, y + half)];
+    quadrants.into_iter().flat_map(|(x, y)| block_order(x, y, half)).collect()
+}
+
+/// A raster, row by row, with its samples put into block order.
+fn stored<T: Copy>(side: usize, raster: &[T]) -> Vec<T> {
+    block_order(0, 0, side).into_iter().map(|(x, y)| raster[y * side + x]).collect()
+}
+
 /// Each file with its bytes.
 fn samples() -> Vec<(&'static str, Vec<u8>)> {
     let wide_dial = DIAL_2.map(|colour| [0, 0xFFFF, 0xFEFF, 0xFFFE][usize::from(colour)]);
@@ -41,6 +57,10 @@ fn samples() -> Vec<(&'static str, Vec<u8>)> {
         ("wide-65535.pgm", wide_pgm(4, 65_535, &wide_dial)),
         // the clock in colours up to 1,000
         ("wide-1000.pgm", wide_pgm(64, 1000, &wide_clock)),
+        // the clock, dial 2 and the clock in colours up to 1,000, with their samples in block order
+        ("clock-64-stored.pgm", pgm(64, 64, &stored(64, &dial::clock(64, TIME)))),
+        ("dial-2-stored.pgm", pgm(4, 4, &stored(4, &DIAL_2))),
+        ("wide-1000-stored.pgm", wide_pgm(64, 1000, &stored(64, &wide_clock))),
         // a number sign straight after maxval
         ("refused-remark.pgm", [b"P5\n4 4\n255# levels\n", &DIAL_3[..]].concat()),
         // one picture for each number with which a picture is refused, from 10 to 14; clock-256.pgm is refused with 15

@@ -44,6 +44,37 @@ int main(void) {
     w = nettlestair_raster_from_blocks(2, codes, 7, levels, 7, colours, 7, r, 15);
     expect("raster from blocks, too short", w.number == 8 && w.count == 0);
 
+    /* the same raster in block order, and back; the refusals leave what was written */
+    const uint16_t block_order[17] = {1, 1, 1, 257, 1, 1, 1, 1, 1, 1, 1, 1, 65535, 65535, 65535, 65535, 0x6363};
+    memset(k, 99, sizeof k);
+    memset(r, 99, sizeof r);
+    w = nettlestair_to_block_order(2, raster, 16, k, 17);
+    expect("to block order, answer", w.number == 0 && w.count == 16);
+    expect("to block order, stored", !memcmp(k, block_order, sizeof block_order));
+    w = nettlestair_from_block_order(2, k, 16, r, 17);
+    expect("from block order, answer", w.number == 0 && w.count == 16);
+    expect("from block order, raster", !memcmp(r, raster, sizeof raster) && r[16] == 0x6363);
+    w = nettlestair_to_block_order(2, raster, 16, r, 15);
+    expect("to block order, too short", w.number == 8 && w.count == 0);
+    w = nettlestair_to_block_order(2, raster, 15, r, 15);
+    expect("to block order, a raster too short", w.number == 9 && w.count == 0);
+    w = nettlestair_from_block_order(2, block_order, 16, k, 15);
+    expect("from block order, too short", w.number == 8 && w.count == 0);
+    w = nettlestair_from_block_order(2, block_order, 17, k, 17);
+    expect("from block order, a stored raster too long", w.number == 9 && w.count == 0);
+    expect("from block order, n above 8", nettlestair_from_block_order(9, block_order, 17, k, 0).number == 1);
+    expect("block order, refusals", !memcmp(k, block_order, sizeof block_order) && !memcmp(r, raster, sizeof raster));
+
+    /* a raster of 8 by 8: the two ways differ there */
+    uint16_t rows[64], stored[64] = {0}, back[64] = {0};
+    for (int i = 0; i < 64; i++)
+        rows[i] = i;
+    nettlestair_to_block_order(3, rows, 64, stored, 64);
+    for (int i = 0; i < 64; i++)
+        expect("block order, a pixel at its code", stored[nettlestair_code(i % 8, i / 8)] == i);
+    nettlestair_from_block_order(3, stored, 64, back, 64);
+    expect("block order, there and back", !memcmp(back, rows, sizeof rows));
+
     /* figure 5(b) over one colour; then two images of 2 by 2 that give one block, and the rest of the lists stays */
     const uint32_t northwest[4] = {0, 1, 2, 3};
     const uint8_t whole[1] = {2}, pixels[4] = {0};

@@ -2,7 +2,7 @@
 
 use crate::nettlestair::Written;
 use crate::pictures::Kind;
-use crate::sides::{Blocks, Lists, Side, LIBRARY, PLAIN};
+use crate::sides::{Blocks, Lists, Side, Way, LIBRARY, PLAIN};
 use crate::timing::{compare, Times};
 use std::cell::RefCell;
 use std::hint::black_box;
@@ -51,6 +51,14 @@ impl Input {
         let painted = (side.raster_from_blocks)(n, self.blocks(), &mut raster);
         (merged, painted, codes, levels, colours, raster)
     }
+
+    /// The answers of both ways to rearrange a raster on fresh lists, and every entry of the lists.
+    fn orders(&self, n: u32, side: &Side) -> impl PartialEq {
+        let mut lists = [(); 2].map(|()| vec![9; self.raster.len() + 1]);
+        let to = (side.to_block_order)(n, &self.raster, &mut lists[0]);
+        let from = (side.from_block_order)(n, &self.raster, &mut lists[1]);
+        (to, from, lists)
+    }
 }
 
 /// As many pictures of one kind and one n as have 65,536 pixels in all. One small picture alone, called again and again,
@@ -76,6 +84,10 @@ impl Inputs {
 
     pub fn equal_rasters(&self) -> bool {
         self.inputs.iter().all(|input| input.rasters(self.n, &LIBRARY) == input.rasters(self.n, &PLAIN))
+    }
+
+    pub fn equal_orders(&self) -> bool {
+        self.inputs.iter().all(|input| input.orders(self.n, &LIBRARY) == input.orders(self.n, &PLAIN))
     }
 
     /// The times of a job for one picture.
@@ -121,6 +133,14 @@ impl Inputs {
         let mut raster = vec![0; 1 << (2 * self.n)];
         self.time(|side, input| {
             black_box((side.raster_from_blocks)(self.n, input.blocks(), &mut raster));
+        })
+    }
+
+    /// The times of one way to rearrange a raster.
+    pub fn time_order(&self, way: fn(&Side) -> Way) -> Times {
+        let mut target = vec![0; 1 << (2 * self.n)];
+        self.time(|side, input| {
+            black_box(way(side)(self.n, &input.raster, &mut target));
         })
     }
 }

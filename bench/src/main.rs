@@ -23,6 +23,7 @@ Times the proved library (target/staticlib/libexports.a) against a plain Rust im
 
   outlines   check, number and trace at n = 8, and how the time of trace grows from n = 4 to n = 8
   rasters    blocks_from_raster and raster_from_blocks at n = 8, and read_pgm of one byte a sample and of two
+  orders     to_block_order and from_block_order at n = 6 and n = 8
   overlay    one picture laid over another at n = 8
   codes      a code for each pixel of 256 by 256
   all        all of these (without MODE)
@@ -35,9 +36,10 @@ fn main() -> ExitCode {
     let reports: &[fn() -> bool] = match mode.as_str() {
         "outlines" => &[report::outlines],
         "rasters" => &[report::rasters],
+        "orders" => &[report::orders],
         "overlay" => &[report::overlay],
         "codes" => &[report::codes],
-        "all" => &[report::outlines, report::rasters, report::overlay, report::codes],
+        "all" => &[report::outlines, report::rasters, report::orders, report::overlay, report::codes],
         "help" | "--help" | "-h" => {
             print!("{HELP}");
             return ExitCode::SUCCESS;

@@ -11,7 +11,7 @@ pub struct Kind {
 }
 
 const NOISE_OF_2: Kind = Kind { name: "noise of 2 colours", raster: |n, seed| noise(n, 2, seed) };
-const NOISE_OF_256: Kind = Kind { name: "noise of 256 colours", raster: |n, seed| noise(n, 256, seed) };
+pub const NOISE_OF_256: Kind = Kind { name: "noise of 256 colours", raster: |n, seed| noise(n, 256, seed) };
 const ONE_COLOUR: Kind = Kind { name: "one colour", raster: |n, _| vec![7; 1 << (2 * n)] };
 const CLOCK_DIAL: Kind = Kind { name: "clock dial", raster: clock };
 

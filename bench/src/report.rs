@@ -1,7 +1,7 @@
 //! What is timed and how it is told.
 
 use crate::inputs::{Inputs, Pair};
-use crate::pictures::{self, KINDS, PAIRS};
+use crate::pictures::{self, KINDS, NOISE_OF_256, PAIRS};
 use crate::plain::spread_code;
 use crate::sides::{Side, LIBRARY, PLAIN};
 use crate::timing::{compare, Times, SAMPLES};
@@ -152,6 +152,26 @@ fn reading() -> bool {
         equal &= same;
     }
     equal
+}
+
+/// A raster into block order and back at n = 6 and n = 8; its content makes no difference. Says whether all answers were
+/// equal, from n = 0 to n = 8.
+pub fn orders() -> bool {
+    let same = (0..=8).all(|n| Inputs::new(&NOISE_OF_256, n).equal_orders());
+    println!("\nA raster into block order and back, microseconds a picture; the table of plain Rust is a static");
+    println!("{:<28} | {:^28} | {:^28} |", "", "to_block_order", "from_block_order");
+    println!("{:<28} | {HEADING} | {HEADING} | answers", "");
+    for n in [6, 8] {
+        let inputs = Inputs::new(&NOISE_OF_256, n);
+        println!(
+            "{:<28} | {} | {} | {}",
+            format!("n = {n}"),
+            columns(inputs.time_order(|side| side.to_block_order)),
+            columns(inputs.time_order(|side| side.from_block_order)),
+            if same { "equal" } else { "DIFFERENT" }
+        );
+    }
+    same
 }
 
 /// One picture laid over another at n = 8. Says whether all answers were equal.

@@ -28,6 +28,9 @@ pub struct Lent<'a> {
     pub corners: &'a mut [u32],
 }
 
+/// One way to rearrange a raster: n, the source and the target.
+pub type Way = fn(u32, &[u16], &mut [u16]) -> Written;
+
 /// An implementation of document 01.
 #[allow(clippy::type_complexity)]
 pub struct Side {
@@ -37,6 +40,8 @@ pub struct Side {
     pub trace: fn(u32, Blocks, Lent) -> Traced,
     pub blocks_from_raster: fn(u32, &[u16], &mut [u32], &mut [u8], &mut [u16]) -> Written,
     pub raster_from_blocks: fn(u32, Blocks, &mut [u16]) -> Written,
+    pub to_block_order: Way,
+    pub from_block_order: Way,
     pub overlay: fn(u32, Blocks, Blocks, &mut [u32], &mut [u8], &mut [u16]) -> Written,
     pub read_pgm: fn(&[u8], &mut [u16]) -> Picture,
 }
@@ -54,6 +59,8 @@ pub const LIBRARY: Side = Side {
     raster_from_blocks: |n, blocks, raster| {
         nettlestair::raster_from_blocks(n, blocks.codes, blocks.levels, blocks.colours, raster)
     },
+    to_block_order: nettlestair::to_block_order,
+    from_block_order: nettlestair::from_block_order,
     overlay: |n, a, b, codes, levels, colours| {
         nettlestair::overlay(n, a.codes, a.levels, a.colours, b.codes, b.levels, b.colours, codes, levels, colours)
     },
@@ -67,6 +74,8 @@ pub const PLAIN: Side = Side {
     trace: plain::trace,
     blocks_from_raster: plain::blocks_from_raster,
     raster_from_blocks: plain::raster_from_blocks,
+    to_block_order: plain::to_block_order,
+    from_block_order: plain::from_block_order,
     overlay: plain::overlay,
     read_pgm: plain::read_pgm,
 };

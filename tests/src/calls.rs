@@ -3,6 +3,7 @@
 use crate::compare::difference;
 use crate::lent::{Entry, Lent};
 use crate::model::blocks::Blocks;
+use crate::model::orders::{in_block_order, in_rows};
 use crate::model::pgm::Read;
 use crate::nettlestair::{self, Numbered, Picture, Traced, Written};
 use crate::random::Random;
@@ -122,6 +123,14 @@ impl<T: Entry> Out<T> {
     fn differs(&self, written: Written, entries: &[T]) -> Option<String> {
         answer(written, self.written).or_else(|| self.list.difference(entries).map(|d| d.to_string()))
     }
+
+    /// What differs from what the model answers: entries, or the number of a refusal.
+    pub fn difference_from_model(&self, expected: &Result<Vec<T>, u32>) -> Option<String> {
+        match expected {
+            Ok(entries) => self.difference(entries),
+            Err(number) => self.difference_from_refusal(*number),
+        }
+    }
 }
 
 /// Blocks to raster, with a raster of the given length.
@@ -129,6 +138,28 @@ pub fn raster_from_blocks(random: &mut Random, n: u32, blocks: &Blocks, length: 
     handed_in(blocks, |Blocks { codes, levels, colours }| {
         Out::of(random, length, |raster| nettlestair::raster_from_blocks(n, codes, levels, colours, raster))
     })
+}
+
+/// A way to rearrange a raster: its name, the library's function, and the order that it gives by the model.
+pub struct Way {
+    pub name: &'static str,
+    function: fn(u32, &[u16], &mut [u16]) -> Written,
+    pub order: fn(u32, &[u16]) -> Vec<u16>,
+}
+
+pub const TO_BLOCK_ORDER: Way =
+    Way { name: "to block order", function: nettlestair::to_block_order, order: in_block_order };
+pub const FROM_BLOCK_ORDER: Way =
+    Way { name: "from block order", function: nettlestair::from_block_order, order: in_rows };
+
+impl Way {
+    /// Rearranges a source, with a target of the given length.
+    pub fn call(&self, random: &mut Random, n: u32, source: &[u16], length: usize) -> Out<u16> {
+        let before = source.to_vec();
+        let out = Out::of(random, length, |target| (self.function)(n, black_box(source), target));
+        unchanged("source", &before, black_box(source));
+        out
+    }
 }
 
 /// The reader of pictures, after a call.

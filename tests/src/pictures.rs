@@ -2,8 +2,11 @@
 
 use crate::calls::{agrees, PictureOut};
 use crate::compare::Shown;
+use crate::faults;
+use crate::model::orders::in_rows;
 use crate::model::pgm::{read, read_into, Read};
 use crate::random::Random;
+use crate::rasters;
 
 /// A header and what follows it.
 pub fn picture(header: &str, raster: &[u8]) -> Vec<u8> {
@@ -33,6 +36,30 @@ pub fn sample_bytes(maxval: u32, colours: &[u16]) -> Vec<u8> {
 pub fn of_both_widths(n: u32, raster: &[u16]) -> [Vec<u8>; 2] {
     let low: Vec<u16> = raster.iter().map(|colour| colour & 0xFF).collect();
     [pgm(n, 255, &low), pgm(n, 65_535, raster)]
+}
+
+/// A picture of up to 128 by 128, at times with faults near its front or anywhere.
+pub fn any_file(random: &mut Random) -> Vec<u8> {
+    let n = [0, 1, 2, 2, 3, 3, 4, 5, 6, 7][random.below(10)];
+    let maxval = [0, 1, 9, 200, 255, 255, 256, 1000, 65_535, 65_535, 65_536][random.below(11)];
+    let raster = rasters::any(random, n).into_iter().map(|colour| (u32::from(colour) % (maxval + 1)) as u16);
+    let mut bytes = pgm(n, maxval, &raster.collect::<Vec<u16>>());
+    let front = [16, bytes.len()][random.below(2)].min(bytes.len());
+    let behind = bytes.split_off(front);
+    for _ in 0..[0, 0, 1, 2][random.below(4)] {
+        faults::in_list(random, &mut bytes, b"0123456789 #\n\xff");
+    }
+    [bytes, behind].concat()
+}
+
+/// A file with its samples, which stand in block order, put into rows; a refused one as it stands.
+pub fn put_into_rows(bytes: &[u8]) -> Vec<u8> {
+    let Read { number, n, maxval, samples } = read(bytes);
+    if number != 0 {
+        return bytes.to_vec();
+    }
+    let rows = sample_bytes(maxval, &in_rows(n, &samples));
+    [&bytes[..bytes.len() - rows.len()], &rows].concat()
 }
 
 /// Holds the reader to the model on these bytes with a raster of this length, and gives the number.
@@ -66,5 +93,15 @@ mod tests {
         assert_eq!(pgm(0, 255, &[65]), b"P5\n1 1\n255\nA");
         assert_eq!(pgm(0, 256, &[65]), b"P5\n1 1\n256\n\0A");
         assert_eq!(of_both_widths(0, &[0x4142]), [b"P5\n1 1\n255\nB".to_vec(), b"P5\n1 1\n65535\nAB".to_vec()]);
+    }
+
+    #[test]
+    fn stored_samples_put_into_rows() {
+        assert_eq!(put_into_rows(b"P5#\n4 4 255 abcdefghijklmnop"), b"P5#\n4 4 255 abefcdghijmnklop");
+        let wide = put_into_rows(b"P5 4 4 65535 AaBbCcDdEeFfGgHhIiJjKkLlMmNnOoPp");
+        assert_eq!(wide, b"P5 4 4 65535 AaBbEeFfCcDdGgHhIiJjMmNnKkLlOoPp");
+        for refused in [&b"P5 4 4 99 abcdefghijklmnop"[..], b"P5 4 4 255 abcdefghijklmno", b""] {
+            assert_eq!(put_into_rows(refused), refused);
+        }
     }
 }

@@ -3,13 +3,14 @@
 
 use std::collections::BTreeSet;
 use std::time::{Duration, Instant};
-use tests::calls::{self, Called, Out, PictureOut};
+use tests::calls::{self, Called, Out, PictureOut, Way, FROM_BLOCK_ORDER, TO_BLOCK_ORDER};
 use tests::cases::Cases;
 use tests::compare::Shown;
 use tests::expected::{needs, Model};
 use tests::faults;
 use tests::lent::Entry;
 use tests::model::blocks::{location_code, number, paint, quadtree, Blocks};
+use tests::model::orders::{raster_number, rearranged};
 use tests::model::overlay::overlay as overlaid;
 use tests::model::paths;
 use tests::model::pgm::read_into;
@@ -24,11 +25,13 @@ use tests::rasters;
 type Try = fn(random: &mut Random, wrong: u32) -> (u32, Option<String>);
 
 /// Each function with the numbers that it can answer; a location code and the stretch of a cycle have none.
-const FUNCTIONS: [(&str, Try, &[u32]); 11] = [
+const FUNCTIONS: [(&str, Try, &[u32]); 13] = [
     ("fuzzing, codes", code, &[0]),
     ("fuzzing, check", check, &[0, 1, 2, 3, 4, 5, 6, 7]),
     ("fuzzing, raster to blocks", blocks_from_raster, &[0, 1, 8, 9]),
     ("fuzzing, blocks to raster", raster_from_blocks, &[0, 1, 2, 3, 4, 5, 6, 7, 8]),
+    ("fuzzing, to block order", |random, wrong| rearranging(random, wrong, &TO_BLOCK_ORDER), &[0, 1, 8, 9]),
+    ("fuzzing, from block order", |random, wrong| rearranging(random, wrong, &FROM_BLOCK_ORDER), &[0, 1, 8, 9]),
     ("fuzzing, one list over another", overlay, &[0, 1, 2, 3, 4, 5, 6, 7, 8]),
     ("fuzzing, numbers", numbering, &[0, 1, 2, 3, 4, 5, 6, 7, 8]),
     ("fuzzing, outlines", tracing, &[0, 1, 2, 3, 4, 5, 6, 7, 8]),
@@ -146,22 +149,23 @@ fn check(random: &mut Random, wrong: u32) -> (u32, Option<String>) {
     (expected, (expected != found).then(|| format!("n = {n}, {blocks}: expected {expected}, found {found}")))
 }
 
-fn blocks_from_raster(random: &mut Random, wrong: u32) -> (u32, Option<String>) {
+/// n and a raster, at times of another length than 4^n.
+fn raster(random: &mut Random) -> (u32, Vec<u16>) {
     let n = side(random);
     let mut raster = rasters::any(random, drawn(n));
     if random.below(8) == 0 {
         faults::in_list(random, &mut raster, &[0, 1]);
     }
-    let need = 1 << (2 * drawn(n));
-    let lengths = [need, need, need].map(|need| length(random, need));
+    (n, raster)
+}
+
+fn blocks_from_raster(random: &mut Random, wrong: u32) -> (u32, Option<String>) {
+    let (n, raster) = raster(random);
+    let lengths = [1 << (2 * drawn(n)); 3].map(|need| length(random, need));
     let mut out = calls::blocks_from_raster(random, n, &raster, lengths);
     out.written.count += wrong;
-    let number = match (n > 8, raster.len() != need, lengths.iter().any(|&length| length < need)) {
-        (true, _, _) => 1,
-        (_, true, _) => 9,
-        (_, _, true) => 8,
-        _ => 0,
-    };
+    let [codes, levels, colours] = lengths;
+    let number = raster_number(n, raster.len(), codes.min(levels).min(colours));
     let difference = match number {
         0 => out.difference(&quadtree(n, &raster)),
         _ => out.difference_from_refusal(number),
@@ -184,6 +188,17 @@ fn raster_from_blocks(random: &mut Random, wrong: u32) -> (u32, Option<String>) 
         _ => out.difference_from_refusal(number),
     };
     (number, difference.map(|d| format!("n = {n}, {blocks}, raster of {length}: {d}")))
+}
+
+fn rearranging(random: &mut Random, wrong: u32, way: &Way) -> (u32, Option<String>) {
+    let (n, source) = raster(random);
+    let length = length(random, 1 << (2 * drawn(n)));
+    let expected = rearranged(n, &source, length, way.order);
+    let mut out = way.call(random, n, &source, length);
+    out.written.number += wrong;
+    let difference = out.difference_from_model(&expected);
+    let number = expected.err().unwrap_or(0);
+    (number, difference.map(|d| format!("n = {n}, source {}, target of {length}: {d}", Shown(&source))))
 }
 
 /// The lists of two rasters, at times of one that is parted in two.

@@ -1,10 +1,14 @@
 //! What becomes of lent lists: tails stay, lists one too short are refused, a refusal leaves everything.
 
-use tests::calls::{agrees, blocks_from_raster, overlay, raster_from_blocks, BlocksOut};
+use tests::calls::{
+    agrees, blocks_from_raster, overlay, raster_from_blocks, BlocksOut, Out, FROM_BLOCK_ORDER, TO_BLOCK_ORDER,
+};
 use tests::cases::Cases;
 use tests::damage::each_place;
 use tests::model::blocks::{quadtree, Blocks};
+use tests::model::orders::{in_block_order, raster_number, rearranged};
 use tests::model::overlay::larger;
+use tests::nettlestair::Written;
 use tests::random::Random;
 use tests::rasters;
 
@@ -40,28 +44,28 @@ fn block_lists_too_short() {
     cases.end();
 }
 
-/// Rasters to blocks: 1, 9, 8 in this order, each alone and each pair.
+/// Rasters to blocks and rasters rearranged: 1, 9, 8 in this order, each alone, each pair and all three. For n = 9 too there
+/// are a raster and lists of 4^n entries, so that 1 is alone.
 #[test]
 fn refused_rasters() {
     let mut cases = Cases::of("refused rasters");
     let mut random = Random::of("refused rasters");
     for n in (0..40).chain([64, 255, 256, 65536, 1 << 31, u32::MAX]) {
-        let need = if n <= 8 { 1usize << (2 * n) } else { 300 };
+        let need = if n <= 9 { 1usize << (2 * n) } else { 300 };
         for length in [0, 1, need - 1, need, need + 1, 2 * need, 4 * need] {
             let raster = vec![7; length];
             for room in [need + 1, need, need - 1, 0] {
-                let expected = match (n > 8, length != need, room < need) {
-                    (true, _, _) => 1,
-                    (_, true, _) => 9,
-                    (_, _, true) => 8,
-                    _ => 0,
-                };
                 let out = blocks_from_raster(&mut random, n, &raster, [room, need, need]);
-                let difference = match expected {
+                let difference = match raster_number(n, length, room) {
                     0 => out.difference(&quadtree(n, &raster)),
-                    _ => out.difference_from_refusal(expected),
+                    number => out.difference_from_refusal(number),
                 };
                 agrees(format_args!("n = {n}, raster of {length}, codes of {room}"), difference);
+                for way in [TO_BLOCK_ORDER, FROM_BLOCK_ORDER] {
+                    let out = way.call(&mut random, n, &raster, room);
+                    let difference = out.difference_from_model(&rearranged(n, &raster, room, way.order));
+                    agrees(format_args!("{}, n = {n}, source of {length}, target of {room}", way.name), difference);
+                }
                 cases.ran();
             }
         }
@@ -69,23 +73,34 @@ fn refused_rasters() {
     cases.end();
 }
 
-/// Blocks to raster: one entry too few is 8, whatever the list; more are left as they were.
+/// Blocks to raster and rasters rearranged, each with a list of this length, and what each writes where it has room.
+fn rasters_written(random: &mut Random, n: u32, raster: &[u16], length: usize) -> [(Out<u16>, Vec<u16>); 3] {
+    let stored = in_block_order(n, raster);
+    [
+        (raster_from_blocks(random, n, &quadtree(n, raster), length), raster.to_vec()),
+        (FROM_BLOCK_ORDER.call(random, n, &stored, length), raster.to_vec()),
+        (TO_BLOCK_ORDER.call(random, n, raster, length), stored),
+    ]
+}
+
+/// Blocks to raster and rasters rearranged: one entry too few is 8, whatever the input; more are left as they were.
 #[test]
 fn rasters_too_short_and_too_long() {
     let mut cases = Cases::of("raster lengths");
     let mut random = Random::of("raster lengths");
     for n in 0..=8 {
         for raster in rasters::of_every_kind(&mut random, n) {
-            let blocks = quadtree(n, &raster);
             for length in [0, raster.len() / 2, raster.len() - 1] {
-                let out = raster_from_blocks(&mut random, n, &blocks, length);
-                agrees(format_args!("n = {n}, room for {length}"), out.difference_from_refusal(8));
-                cases.ran();
+                for (out, _) in rasters_written(&mut random, n, &raster, length) {
+                    agrees(format_args!("n = {n}, room for {length}"), out.difference_from_refusal(8));
+                    cases.ran();
+                }
             }
             for more in [0, 1, 17, 3 * raster.len()] {
-                let out = raster_from_blocks(&mut random, n, &blocks, raster.len() + more);
-                agrees(format_args!("n = {n}, {more} entries more"), out.difference(&raster));
-                cases.ran();
+                for (out, written) in rasters_written(&mut random, n, &raster, raster.len() + more) {
+                    agrees(format_args!("n = {n}, {more} entries more"), out.difference(&written));
+                    cases.ran();
+                }
             }
         }
     }
@@ -128,15 +143,20 @@ fn damage_is_seen() {
                 assert!(out.difference(blocks).is_some(), "another number");
             }
 
-            let mut back = raster_from_blocks(&mut random, n, &blocks, more);
-            each_place(&mut random, &mut cases, &mut back, |b| &mut b.list, &raster, |b| b.difference(&raster));
-            back.written.count = 0;
-            assert!(back.difference(&raster).is_some(), "another count");
+            for (mut out, entries) in rasters_written(&mut random, n, &raster, more) {
+                each_place(&mut random, &mut cases, &mut out, |o| &mut o.list, &entries, |o| o.difference(&entries));
+                for other in [Written { number: 8, ..out.written }, Written { count: 0, ..out.written }] {
+                    out.written = other;
+                    assert!(out.difference(&entries).is_some(), "another answer: {other:?}");
+                }
+            }
 
             let short = raster.len() - 1;
-            let mut refused = raster_from_blocks(&mut random, n, &blocks, short);
-            each_place(&mut random, &mut cases, &mut refused, |r| &mut r.list, &[], |r| r.difference_from_refusal(8));
-            assert!(refused.difference_from_refusal(6).is_some(), "another number");
+            for (mut refused, _) in rasters_written(&mut random, n, &raster, short) {
+                let difference = |r: &Out<u16>| r.difference_from_refusal(8);
+                each_place(&mut random, &mut cases, &mut refused, |r| &mut r.list, &[], difference);
+                assert!(refused.difference_from_refusal(9).is_some(), "another number");
+            }
 
             let mut refused = overlay(&mut random, n, &blocks, &second, [short; 3]);
             let none = Blocks::default();

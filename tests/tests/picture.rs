@@ -161,7 +161,7 @@ fn pictures_read_back() {
     let mut cases = Cases::of("pictures read back");
     let mut random = Random::of("pictures read back");
     let mut pictures: Vec<Vec<u8>> = accepted().map(|(_, bytes)| bytes).collect();
-    assert_eq!(pictures.len(), 10, "the clocks, dials 1 to 5, the one with a remark and the two of two bytes a sample");
+    assert_eq!(pictures.len(), 13, "two clocks, dials 1 to 5, one with a remark, two wide ones, three in block order");
     for n in 0..=6 {
         pictures.extend(rasters::of_every_kind(&mut random, n).iter().flat_map(|raster| of_both_widths(n, raster)));
     }

@@ -1,7 +1,7 @@
 //! Location codes: the binary digits of y and x by turns.
 
 /// Entry i is i with a zero digit put above each of its binary digits.
-static SPREADS: [u16; 256] = spreads();
+pub static SPREADS: [u16; 256] = spreads();
 
 const fn spreads() -> [u16; 256] {
     let mut table = [0; 256];

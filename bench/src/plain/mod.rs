@@ -5,12 +5,14 @@
 
 pub mod blocks;
 pub mod location;
+pub mod orders;
 pub mod outlines;
 pub mod pgm;
 pub mod regions;
 
 pub use blocks::{blocks_from_raster, check, overlay, raster_from_blocks};
 pub use location::{code, spread_code};
+pub use orders::{from_block_order, to_block_order};
 pub use outlines::trace;
 pub use pgm::read_pgm;
 pub use regions::number;

@@ -45,35 +45,38 @@ pub record Writes (number : ℕ) (new old now : List ℕ) (answer : Written) : T
   pub count-is : answer .count ≡ length (ifAccepted number new)
   pub list : now ≡ over (ifAccepted number new) old
 
--- The three answers of such a writer: the cause, 8, and all of `new` put.
-module _ (cause : ℕ) (form : Bool) (need : ℕ) {new old : List ℕ} (answer : Written) where
-  refused : (k : ℕ) → writerNumber cause form need (length old) ≡ suc k → answer .number ≡ suc k → answer .count ≡ 0
-      → Writes (writerNumber cause form need (length old)) new old old answer
+-- A refusal writes nothing, and an acceptance puts all of `new`.
+module _ {number : ℕ} {new old : List ℕ} (answer : Written) where
+  pub writes-none : (k : ℕ) → number ≡ suc k → answer .number ≡ suc k → answer .count ≡ 0 → Writes number new old old answer
   unfolding ifAccepted
-  refused k e n z =
+  writes-none k e n z =
       record {
         number-is = n ∙ sym e;
         count-is = z ∙ ap (λ m. length (ifAccepted m new)) (sym e);
         list = sym (over-none old) ∙ ap (λ m. over (ifAccepted m new) old) (sym e);
       }
 
-  pub answers-cause : (k : ℕ) → cause ≡ suc k → form ≡ false → answer .number ≡ cause → answer .count ≡ 0
-      → Writes (writerNumber cause form need (length old)) new old old answer
-  answers-cause k c h n z = refused k (no-form cause form need (length old) h (omega arith) ∙ c) (n ∙ c) z
-
-  pub answers-short : form ≡ true → length old < need → answer .number ≡ 8 → answer .count ≡ 0 → Writes (writerNumber cause form need (length old)) new old old answer
-  answers-short h l n z = refused 7 (too-short cause form need (length old) h l) n z
-
-  pub answers-all : {now : List ℕ} → form ≡ true → need ≤ length old → answer .number ≡ 0 → Put new old now (answer .count)
-      → Writes (writerNumber cause form need (length old)) new old now answer
+  pub writes-all : {now : List ℕ} → number ≡ 0 → answer .number ≡ 0 → Put new old now (answer .count) → Writes number new old now answer
   unfolding ifAccepted
-  answers-all {now} h l n p =
-      let e = no-cause cause form need (length old) h l in
+  writes-all {now} e n p =
       record {
         number-is = n ∙ sym e;
         count-is = p .count-is ∙ ap (λ m. length (ifAccepted m new)) (sym e);
         list = p .list ∙ ap (λ m. over (ifAccepted m new) old) (sym e);
       }
+
+-- The three answers of a writer of 16 or 17, then 8: the cause, 8, and all of `new` put.
+module _ (cause : ℕ) (form : Bool) (need : ℕ) {new old : List ℕ} (answer : Written) where
+  pub answers-cause : (k : ℕ) → cause ≡ suc k → form ≡ false → answer .number ≡ cause → answer .count ≡ 0
+      → Writes (writerNumber cause form need (length old)) new old old answer
+  answers-cause k c h n z = writes-none answer k (no-form cause form need (length old) h (omega arith) ∙ c) (n ∙ c) z
+
+  pub answers-short : form ≡ true → length old < need → answer .number ≡ 8 → answer .count ≡ 0 → Writes (writerNumber cause form need (length old)) new old old answer
+  answers-short h l n z = writes-none answer 7 (too-short cause form need (length old) h l) n z
+
+  pub answers-all : {now : List ℕ} → form ≡ true → need ≤ length old → answer .number ≡ 0 → Put new old now (answer .count)
+      → Writes (writerNumber cause form need (length old)) new old now answer
+  answers-all h l n p = writes-all answer (no-cause cause form need (length old) h l) n p
 
 -- A call that was accepted and wrote `new`: its answer, and the lent list, `old` before and `now` after.
 pub record Wrote (new old now : List ℕ) (answer : Written) : Type 0 where

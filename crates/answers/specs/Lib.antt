@@ -1,3 +1,4 @@
 -- The answers of writers.
 pub mod Put
 pub mod Answers
+pub mod Rasters

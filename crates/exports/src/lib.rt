@@ -5,6 +5,8 @@ ghost use Rattle.interleaving.specs.Codes.{code};
 ghost use Rattle.quadtree.specs.Number.{number};
 ghost use Rattle.merging.specs.Promise.{FromRaster};
 ghost use Rattle.painting.specs.Promise.{ToRaster};
+ghost use Rattle.rearranging.specs.Ways.{toBlocks, toRows};
+ghost use Rattle.rearranging.specs.Promise.{Rearranging};
 ghost use Rattle.quadtree.specs.BlockLists.{listOf};
 ghost use Rattle.overlaying.specs.Promise.{Overlay};
 ghost use Rattle.regions.specs.Promise.{Numbering};
@@ -103,6 +105,32 @@ pub extern "C" fn nettlestair_raster_from_blocks(
     Written {
         number: painted.number,
         count: painted.count,
+    }
+}
+
+#[no_mangle]
+pub extern "C" fn nettlestair_to_block_order(n: u32, raster: &[u16], stored: &mut [u16]) -> Written
+    ensures { λ r. ⌜ Rearranging toBlocks n (now (raster .entry)) (now (stored .entry)) (now (stored .exit)) (record { number = r .number; count = r .count }) ⌝ }
+{
+    let ordered = rearranging::to_block_order(n, raster, stored);
+    Written {
+        number: ordered.number,
+        count: ordered.count,
+    }
+}
+
+#[no_mangle]
+pub extern "C" fn nettlestair_from_block_order(
+    n: u32,
+    stored: &[u16],
+    raster: &mut [u16],
+) -> Written
+    ensures { λ r. ⌜ Rearranging toRows n (now (stored .entry)) (now (raster .entry)) (now (raster .exit)) (record { number = r .number; count = r .count }) ⌝ }
+{
+    let restored = rearranging::from_block_order(n, stored, raster);
+    Written {
+        number: restored.number,
+        count: restored.count,
     }
 }
 

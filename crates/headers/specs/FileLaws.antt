@@ -4,8 +4,8 @@ use mathlib.Core.Logic.{_↔_}
 use mathlib.Core.List.{List, [], _∷_, _++_, append-assoc}
 use Prim.Native.Nat.{ℕ, _-_, _<_}
 use native.Mathlib.Omega.{arith}
-use lib.ListN.{length, drop, length-append}
-use lib.Seq.{drop-at}
+use lib.ListN.{length, take, drop, length-append}
+use lib.Seq.{take-at, drop-at}
 use Rattle.headers.specs.Parser.{Parsed, refused, got}
 use Rattle.headers.specs.Header.{Fields, header}
 use Rattle.headers.specs.File.{File}
@@ -54,6 +54,31 @@ module _ (bytes raster : List ℕ) (f : Fields) (x : File bytes f raster) where
   raster-at-end =
       let long : length (front x) ≡ length bytes - length raster = omega (arith, ap length (front-raster x), length-append (front x) raster) in
       ap (drop (length bytes - length raster)) (front-raster x) ∙ drop-at (front x) raster (length bytes - length raster) long
+
+  -- Other bytes behind the same header.
+  pub raster-replaced : (other : List ℕ) → File (take (length bytes - length raster) bytes ++ other) f other
+  unfolding front
+  raster-replaced other =
+      let long : length (front x) ≡ length bytes - length raster = omega (arith, ap length (front-raster x), length-append (front x) raster) in
+      let header-bytes : take (length bytes - length raster) bytes ≡ front x =
+      ap (take (length bytes - length raster)) (front-raster x) ∙ take-at (front x) raster (length bytes - length raster) long in
+      record {
+        white1 = x .white1;
+        width = x .width;
+        white2 = x .white2;
+        height = x .height;
+        white3 = x .white3;
+        maxval = x .maxval;
+        last = x .last;
+        layout = ap (λ (l : List ℕ). l ++ other) header-bytes ∙ simp append-assoc;
+        white-before-width = x .white-before-width;
+        width-is = x .width-is;
+        white-before-height = x .white-before-height;
+        height-is = x .height-is;
+        white-before-maxval = x .white-before-maxval;
+        maxval-is = x .maxval-is;
+        white-after-maxval = x .white-after-maxval;
+      }
 
 -- A bad header is exactly what is no file.
 pub bad-header-exactly : (bytes : List ℕ) → header bytes ≡ refused 10 ↔ ((f : Fields) (raster : List ℕ) → File bytes f raster → ⊥)

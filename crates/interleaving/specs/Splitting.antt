@@ -64,6 +64,18 @@ row-zero zero = refl
 row-zero (suc k) = omega (arith, row-zero k)
 
 -- More digits than a number has change nothing.
+code-zero : (k : ℕ) → code k 0 0 ≡ 0
+unfolding code
+code-zero zero = refl
+code-zero (suc k) = omega (arith, code-zero k)
+
+pub code-wider : (k m x y : ℕ) → k ≤ m → x < 2 ^ k → y < 2 ^ k → code m x y ≡ code k x y
+code-wider k m x y h a b =
+    let e : m ≡ k + (m - k) = omega arith in
+    let z : code (m - k) (x / 2 ^ k) (y / 2 ^ k) ≡ 0 = ap₂ (code (m - k)) (div-eq-of-lt a) (div-eq-of-lt b) ∙ code-zero (m - k) in
+    let w : 4 ^ k * code (m - k) (x / 2 ^ k) (y / 2 ^ k) ≡ 4 ^ k * 0 = ap (λ (d : ℕ). 4 ^ k * d) z in
+    ap (λ (j : ℕ). code j x y) e ∙ omega (arith, code-split k (m - k) x y, w)
+
 pub column-wider : (k m c : ℕ) → k ≤ m → c < 4 ^ k → column m c ≡ column k c
 column-wider k m c h a =
     let e : m ≡ k + (m - k) = omega arith in

@@ -1,34 +1,34 @@
 // The binary digits of location codes: those of x and y interleaved, by a table of spread numbers, and gathered from a code.
 ghost use mathlib.Core.Path.{_≡_};
-ghost use Prim.Native.Nat.{_+_, _*_, _/_, _%_, _^_};
+ghost use Prim.Native.Nat.{_+_, _*_, _/_, _%_, _^_, _<_};
 ghost use Rattle.interleaving.specs.Codes.{code, column, row};
 ghost use Rattle.interleaving.specs.Spreads.{spread, spreads};
 ghost use Rattle.interleaving.specs.Gathering.{groups};
 
 // The spread number of a byte: its entry of the table.
-fn spread_of(table: &[u16; 256], i: u8) -> u32
-    requires { ⌜ now table ≡ spreads ⌝ }
+fn spread_of(table: &[u16; 256], i: usize) -> u32
+    requires { ⌜ (now table ≡ spreads) × (i < 256) ⌝ }
     ensures { λ r. ⌜ r ≡ spread 8 i ⌝ }
 {
-    table[i as usize] as u32
+    table[i] as u32
 }
 
-// The code of two bytes.
-fn code8(table: &[u16; 256], x: u8, y: u8) -> u32
-    requires { ⌜ now table ≡ spreads ⌝ }
+// The code of the pixel (x, y), both below 256, from the table of the 256 spread numbers. The table is lent, so that a loop over many
+// pixels can build it once.
+pub fn code8(table: &[u16; 256], x: usize, y: usize) -> u32
+    requires { ⌜ (now table ≡ spreads) × (x < 256) × (y < 256) ⌝ }
     ensures { λ r. ⌜ r ≡ code 8 x y ⌝ }
 {
     spread_of(table, x) + 2 * spread_of(table, y)
 }
 
-// The code of the pixel (x, y), from the table of the 256 spread numbers: low bytes, then high bytes. The table is lent, so that a
-// loop over many pixels can build it once.
+// The code of any pixel: low bytes, then high bytes.
 pub fn code_by_table(table: &[u16; 256], x: u16, y: u16) -> u32
     requires { ⌜ now table ≡ spreads ⌝ }
     ensures { λ r. ⌜ r ≡ code 16 x y ⌝ }
 {
-    code8(table, (x % 256) as u8, (y % 256) as u8)
-        + 65536 * code8(table, (x / 256) as u8, (y / 256) as u8)
+    code8(table, (x % 256) as usize, (y % 256) as usize)
+        + 65536 * code8(table, (x / 256) as usize, (y / 256) as usize)
 }
 
 // The first 8 digits of x and of y, worked out together, x in the low half of the word and y in the high half: first one by one in

@@ -15,16 +15,17 @@ use Rattle.pgm.specs.Picture.{scan}
 use Rattle.pgm.specs.Accepted.{number-low}
 use Rattle.printing.specs.Printed.{inputLimit, inputNumber, pictureText, wholeText, textNeed, textRoom, refusedLine, printNumber, printed, Printing}
 use Rattle.printing.specs.Printable.{too-long, by-picture, accepted-text, refusal-text, all-printed}
+use Rattle.printing.specs.declared.order.Order.{Order}
 
-module _ {bytes text bytes′ text′ : List ℕ} {w : Written} (p : Printing bytes text bytes′ text′ w) where
+module _ {order : Order} {bytes text bytes′ text′ : List ℕ} {w : Written} (p : Printing order bytes text bytes′ text′ w) where
   -- The answer says how many bytes were written, and they are in the list.
   pub count-within : w .count ≤ length text′
   unfolding over
   count-within =
-      omega (arith, p .count-is, ap length (p .in-text), length-append (printed bytes (length text)) (drop (length (printed bytes (length text))) text))
+      omega (arith, p .count-is, ap length (p .in-text), length-append (printed order bytes (length text)) (drop (length (printed order bytes (length text))) text))
 
-  pub text-written : take (w .count) text′ ≡ printed bytes (length text)
-  text-written = ap₂ take (p .count-is) (p .in-text) ∙ take-over (printed bytes (length text)) text
+  pub text-written : take (w .count) text′ ≡ printed order bytes (length text)
+  text-written = ap₂ take (p .count-is) (p .in-text) ∙ take-over (printed order bytes (length text)) text
 
   -- "15 begins above 16,384" (document 02, i): there and nowhere else, however long the text is.
   pub fifteen-exactly : w .number ≡ 15 ↔ inputLimit < length bytes
@@ -47,18 +48,18 @@ module _ {bytes text bytes′ text′ : List ℕ} {w : Written} (p : Printing by
 
   -- A list of that length takes the whole text of any bytes.
   module _ (large : textRoom ≤ length text) where
-    pub whole-text-written : take (w .count) text′ ≡ wholeText bytes
-    whole-text-written = text-written ∙ all-printed bytes (length text) large .0
+    pub whole-text-written : take (w .count) text′ ≡ wholeText order bytes
+    whole-text-written = text-written ∙ all-printed bytes order (length text) large .0
 
     pub number-of-input : w .number ≡ inputNumber bytes
-    number-of-input = p .number-is ∙ all-printed bytes (length text) large .1
+    number-of-input = p .number-is ∙ all-printed bytes order (length text) large .1
 
     -- "one line a region" for number 0, and "refused ", the number and LF only" for any other.
-    pub lines-of-picture : w .number ≡ 0 → take (w .count) text′ ≡ pictureText bytes
-    lines-of-picture z = whole-text-written ∙ accepted-text bytes (sym number-of-input ∙ z)
+    pub lines-of-picture : w .number ≡ 0 → take (w .count) text′ ≡ pictureText order bytes
+    lines-of-picture z = whole-text-written ∙ accepted-text bytes (sym number-of-input ∙ z) order
 
     pub line-of-refusal : 0 < w .number → take (w .count) text′ ≡ refusedLine (w .number)
-    line-of-refusal h = whole-text-written ∙ refusal-text bytes h (sym number-of-input)
+    line-of-refusal h = whole-text-written ∙ refusal-text bytes h (sym number-of-input) order
 
     -- "Both programs now take 16,384 bytes" (document 02, i): a picture within them is not refused.
     pub picture-taken : length bytes ≤ inputLimit → scan bytes .number ≡ 0 → w .number ≡ 0

@@ -11,14 +11,14 @@ use borrow.Author.Tests.{lt-ltb, le-ltb, ltb-false}
 use Rattle.sequences.specs.Cases.{first, when, first-none, first-some, first-zero, when-yes, when-no, when-zero}
 use Rattle.sequences.specs.Over.{over, over-none}
 use Rattle.sequences.specs.Powers.{pow4-mono}
-use Rattle.quadtree.specs.Raster.{inCodeOrder}
 use Rattle.decimals.specs.Decimal.{decimal-two}
 use Rattle.answers.specs.Put.{Put}
 use Rattle.answers.specs.declared.Written.{Written}
 use Rattle.pgm.specs.Picture.{scan}
 use Rattle.pgm.specs.Accepted.{refused-number, longer-than-samples}
 use Rattle.drawing.specs.Outlines.{image-text-fits}
-use Rattle.printing.specs.Printed.{refusedLine, inputLimit, inputNumber, pictureText, textFor, wholeText, needFor, textNeed, textRoom, printNumber, ifRoom, printed, Printing, Refusing}
+use Rattle.printing.specs.Printed.{refusedLine, inputLimit, inputNumber, imageOf, pictureText, textFor, wholeText, needFor, textNeed, textRoom, printNumber, ifRoom, printed, Printing, Refusing}
+use Rattle.printing.specs.declared.order.Order.{Order}
 
 -- The line of a number of two digits, byte by byte.
 abbrev pub twoDigitLine : ℕ → List ℕ
@@ -90,11 +90,11 @@ module _ {number : ℕ} {text : List ℕ} (two : (10 ≤ number) × (number < 10
 
 -- The text, the need and the number of a refusal.
 module _ (bytes : List ℕ) {number : ℕ} (some : 0 < number) (e : inputNumber bytes ≡ number) where
-  pub refusal-text : wholeText bytes ≡ refusedLine number
+  pub refusal-text : (order : Order) → wholeText order bytes ≡ refusedLine number
   unfolding wholeText textFor
-  refusal-text = ap (λ (k : ℕ). textFor k bytes) e ∙ pick number some
+  refusal-text order = ap (λ (k : ℕ). textFor order k bytes) e ∙ pick number some
     where
-      pick : (k : ℕ) → 0 < k → textFor k bytes ≡ refusedLine k
+      pick : (k : ℕ) → 0 < k → textFor order k bytes ≡ refusedLine k
       pick zero p = absurd (omega arith)
       pick (suc k) p = refl
 
@@ -110,11 +110,11 @@ module _ (bytes : List ℕ) {number : ℕ} (some : 0 < number) (e : inputNumber 
   unfolding printNumber
   refusal-number size = first-some (inputNumber bytes) (when (ltb size (textNeed bytes)) 8) (omega (arith, e)) ∙ e
 
-  pub refusal-printed : {text text′ : List ℕ} {w : Written} → Refusing number text text′ w → Printing bytes text bytes text′ w
+  pub refusal-printed : {order : Order} {text text′ : List ℕ} {w : Written} → Refusing number text text′ w → Printing order bytes text bytes text′ w
   unfolding printed
-  refusal-printed {text} {text′} {w} r =
-      let same : ifRoom (length text) (length (refusedLine number)) (refusedLine number) ≡ printed bytes (length text) =
-      ap₂ (λ (m : ℕ) (l : List ℕ). ifRoom (length text) m l) (sym refusal-need) (sym refusal-text) in
+  refusal-printed {order} {text} {text′} {w} r =
+      let same : ifRoom (length text) (length (refusedLine number)) (refusedLine number) ≡ printed order bytes (length text) =
+      ap₂ (λ (m : ℕ) (l : List ℕ). ifRoom (length text) m l) (sym refusal-need) (sym (refusal-text order)) in
       record {
         number-is = r .number-is ∙ sym (refusal-number (length text));
         count-is = r .count-is ∙ ap length same;
@@ -124,19 +124,19 @@ module _ (bytes : List ℕ) {number : ℕ} (some : 0 < number) (e : inputNumber 
 
 -- The text, the need and the number of an accepted picture.
 module _ (bytes : List ℕ) (e : inputNumber bytes ≡ 0) where
-  pub accepted-text : wholeText bytes ≡ pictureText bytes
+  pub accepted-text : (order : Order) → wholeText order bytes ≡ pictureText order bytes
   unfolding wholeText textFor
-  accepted-text = ap (λ (k : ℕ). textFor k bytes) e
+  accepted-text order = ap (λ (k : ℕ). textFor order k bytes) e
 
   accepted-need : textNeed bytes ≡ 26 * 4 ^ scan bytes .n
   unfolding textNeed needFor
   accepted-need = ap (λ (k : ℕ). needFor k bytes) e
 
-  pub short-printed : {text : List ℕ} → length text < 26 * 4 ^ scan bytes .n → Printing bytes text bytes text (record { number = 8; count = 0 })
+  pub short-printed : {order : Order} {text : List ℕ} → length text < 26 * 4 ^ scan bytes .n → Printing order bytes text bytes text (record { number = 8; count = 0 })
   unfolding printNumber printed
-  short-printed {text} h =
+  short-printed {order} {text} h =
       let l : length text < textNeed bytes = omega (arith, accepted-need) in
-      let none : printed bytes (length text) ≡ [] = no-room (length text) (textNeed bytes) (wholeText bytes) l in
+      let none : printed order bytes (length text) ≡ [] = no-room (length text) (textNeed bytes) (wholeText order bytes) l in
       record {
         number-is =
             sym (first-none (inputNumber bytes) (when (ltb (length text) (textNeed bytes)) 8) e ∙ when-yes (ltb (length text) (textNeed bytes)) 8 (lt-ltb (length text) (textNeed bytes) l));
@@ -145,12 +145,12 @@ module _ (bytes : List ℕ) (e : inputNumber bytes ≡ 0) where
         in-bytes = refl;
       }
 
-  pub picture-printed : {text text′ : List ℕ} {count : ℕ} → 26 * 4 ^ scan bytes .n ≤ length text → Put (pictureText bytes) text text′ count
-      → Printing bytes text bytes text′ (record { number = 0; count = count })
+  pub picture-printed : {order : Order} {text text′ : List ℕ} {count : ℕ} → 26 * 4 ^ scan bytes .n ≤ length text → Put (pictureText order bytes) text text′ count
+      → Printing order bytes text bytes text′ (record { number = 0; count = count })
   unfolding printNumber printed
-  picture-printed {text} {text′} {count} h p =
+  picture-printed {order} {text} {text′} {count} h p =
       let l : textNeed bytes ≤ length text = omega (arith, accepted-need) in
-      let all : printed bytes (length text) ≡ pictureText bytes = room-for-all (length text) (textNeed bytes) (wholeText bytes) l ∙ accepted-text in
+      let all : printed order bytes (length text) ≡ pictureText order bytes = room-for-all (length text) (textNeed bytes) (wholeText order bytes) l ∙ accepted-text order in
       record {
         number-is =
             sym (first-none (inputNumber bytes) (when (ltb (length text) (textNeed bytes)) 8) e ∙ when-no (ltb (length text) (textNeed bytes)) 8 (le-ltb (length text) (textNeed bytes) l));
@@ -170,21 +170,22 @@ side-at-most-64 bytes short z = pick (decLt 6 (scan bytes .n))
     pick (no h) = omega arith
 
 -- The need of 26 times 4^n, or of the line of a refusal, suffices; and it is never more than that many bytes.
-module _ (bytes : List ℕ) where
-  pub picture-fits : inputNumber bytes ≡ 0 → length (pictureText bytes) ≤ 26 * 4 ^ scan bytes .n
+module _ (order : Order) (bytes : List ℕ) where
+  pub picture-fits : inputNumber bytes ≡ 0 → length (pictureText order bytes) ≤ 26 * 4 ^ scan bytes .n
   unfolding pictureText
   picture-fits e =
       let a = accepted-says bytes e in
       let low : scan bytes .n ≤ 6 = side-at-most-64 bytes (a .0) (a .1) in
-      image-text-fits (scan bytes .n) (inCodeOrder (scan bytes .n) (scan bytes .raster)) (omega arith)
+      image-text-fits (scan bytes .n) (imageOf order (scan bytes .n) (scan bytes .raster)) (omega arith)
 
-  pub text-fits : length (wholeText bytes) ≤ textNeed bytes
+  pub text-fits : length (wholeText order bytes) ≤ textNeed bytes
   text-fits = pick (inputNumber bytes) refl
     where
-      pick : (k : ℕ) → inputNumber bytes ≡ k → length (wholeText bytes) ≤ textNeed bytes
-      pick zero e = omega (arith, ap length (accepted-text bytes e), accepted-need bytes e, picture-fits e)
-      pick (suc k) e = omega (arith, ap length (refusal-text bytes (omega arith) e), refusal-need bytes (omega arith) e)
+      pick : (k : ℕ) → inputNumber bytes ≡ k → length (wholeText order bytes) ≤ textNeed bytes
+      pick zero e = omega (arith, ap length (accepted-text bytes e order), accepted-need bytes e, picture-fits e)
+      pick (suc k) e = omega (arith, ap length (refusal-text bytes (omega arith) e order), refusal-need bytes (omega arith) e)
 
+module _ (bytes : List ℕ) where
   pub need-at-most : textNeed bytes ≤ textRoom
   need-at-most = pick (inputNumber bytes) refl
     where
@@ -198,11 +199,11 @@ module _ (bytes : List ℕ) where
           omega (arith, refusal-need bytes (omega arith) e, line-length (suc k) (omega (arith, r .0)) (omega (arith, r .1)))
 
   -- So a text list of that many bytes takes the whole text of any bytes, and the number is that of the bytes.
-  pub all-printed : (size : ℕ) → textRoom ≤ size → (printed bytes size ≡ wholeText bytes) × (printNumber bytes size ≡ inputNumber bytes)
+  pub all-printed : (order : Order) (size : ℕ) → textRoom ≤ size → (printed order bytes size ≡ wholeText order bytes) × (printNumber bytes size ≡ inputNumber bytes)
   unfolding printed printNumber
-  all-printed size h =
+  all-printed order size h =
       let l : textNeed bytes ≤ size = omega (arith, need-at-most) in
-      (room-for-all size (textNeed bytes) (wholeText bytes) l, pick (inputNumber bytes) l)
+      (room-for-all size (textNeed bytes) (wholeText order bytes) l, pick (inputNumber bytes) l)
     where
       pick : (k : ℕ) → textNeed bytes ≤ size → first k (when (ltb size (textNeed bytes)) 8) ≡ k
       pick zero l = first-none 0 (when (ltb size (textNeed bytes)) 8) refl ∙ when-no (ltb size (textNeed bytes)) 8 (le-ltb size (textNeed bytes) l)

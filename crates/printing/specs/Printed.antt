@@ -12,6 +12,7 @@ use Rattle.decimals.specs.Decimal.{decimal}
 use Rattle.answers.specs.declared.Written.{Written}
 use Rattle.pgm.specs.Picture.{scan}
 use Rattle.drawing.specs.Outlines.{imageText}
+use Rattle.printing.specs.declared.order.Order.{Order}
 
 -- "A refusal prints "refused ", the number and LF only" (document 01, "Path, chain and picture"): the bytes of the word and the blank,
 -- the digits of the number, and LF.
@@ -34,21 +35,28 @@ fifteen-before-ten : inputNumber (replicate (suc inputLimit) 0) ≡ 15
 unfolding inputNumber
 fifteen-before-ten = refl
 
--- The lines of an accepted picture: its raster in rising location code is the image.
-unfoldable pub pictureText : List ℕ → List ℕ
-unfolding imageText inCodeOrder scan
-pictureText bytes = imageText (scan bytes .n) (inCodeOrder (scan bytes .n) (scan bytes .raster))
+-- The image that the samples of a file are, in rising location code. `outlines` takes them "row by row" (document 01, "The dial as blocks");
+-- for a file "whose samples stand in block order" (document 02, e) they are the image as they stand.
+unfoldable pub imageOf : Order → ℕ → List ℕ → List ℕ
+unfolding inCodeOrder
+imageOf Order.Rows n samples = inCodeOrder n samples
+imageOf Order.Blocks n samples = samples
+
+-- The lines of an accepted picture.
+unfoldable pub pictureText : Order → List ℕ → List ℕ
+unfolding imageText imageOf scan
+pictureText order bytes = imageText (scan bytes .n) (imageOf order (scan bytes .n) (scan bytes .raster))
 
 -- What is printed where the number is this one, 0 for acceptance.
-unfoldable pub textFor : ℕ → List ℕ → List ℕ
+unfoldable pub textFor : Order → ℕ → List ℕ → List ℕ
 unfolding refusedLine pictureText
-textFor zero bytes = pictureText bytes
-textFor (suc k) bytes = refusedLine (suc k)
+textFor order zero bytes = pictureText order bytes
+textFor order (suc k) bytes = refusedLine (suc k)
 
 -- The whole text that is printed for the bytes.
-unfoldable pub wholeText : List ℕ → List ℕ
+unfoldable pub wholeText : Order → List ℕ → List ℕ
 unfolding textFor inputNumber
-wholeText bytes = textFor (inputNumber bytes) bytes
+wholeText order bytes = textFor order (inputNumber bytes) bytes
 
 -- The need of the text list: 26 times 4^n for a picture, and the line itself for a refusal.
 unfoldable pub needFor : ℕ → List ℕ → ℕ
@@ -79,15 +87,15 @@ unfoldable pub ifRoom : ℕ → ℕ → List ℕ → List ℕ
 ifRoom size need new = elim (ltb size need) [ true ↦ [] | false ↦ new ]
 
 -- What is written.
-unfoldable pub printed : List ℕ → ℕ → List ℕ
+unfoldable pub printed : Order → List ℕ → ℕ → List ℕ
 unfolding ifRoom textNeed wholeText
-printed bytes size = ifRoom size (textNeed bytes) (wholeText bytes)
+printed order bytes size = ifRoom size (textNeed bytes) (wholeText order bytes)
 
 -- What `print` promises of the bytes and the text, before and after, and of its answer.
-pub record Printing (bytes text bytes′ text′ : List ℕ) (answered : Written) : Type 0 where
+pub record Printing (order : Order) (bytes text bytes′ text′ : List ℕ) (answered : Written) : Type 0 where
   pub number-is : answered .number ≡ printNumber bytes (length text)
-  pub count-is : answered .count ≡ length (printed bytes (length text))
-  pub in-text : text′ ≡ over (printed bytes (length text)) text
+  pub count-is : answered .count ≡ length (printed order bytes (length text))
+  pub in-text : text′ ≡ over (printed order bytes (length text)) text
   pub in-bytes : bytes′ ≡ bytes
 
 -- What the writer of a refusal's line promises.

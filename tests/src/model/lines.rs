@@ -1,5 +1,6 @@
 //! The lines that are printed for a picture.
 
+use super::orders::in_rows;
 use super::outlines::Outlines;
 use super::paths::svg;
 use super::pgm::read;
@@ -15,12 +16,26 @@ pub fn paths(regions: &Regions) -> Vec<String> {
     paths
 }
 
-/// "one line a region: the path data of its cycles joined, then LF. Line 0 is region 0. A refusal prints "refused ", the number
-/// and LF only." The number 15 is the program's alone: there is no bound on the bytes here.
+/// What "outlines" prints: "one line a region: the path data of its cycles joined, then LF. Line 0 is region 0. A
+/// refusal prints "refused ", the number and LF only." The number 15 is the programs' alone: there is no bound on the bytes
+/// here.
 pub fn printed(bytes: &[u8]) -> String {
+    text(bytes, |_, samples| samples.to_vec())
+}
+
+/// What "outlines-stored" prints: the same "for a P5 file whose samples stand in block order".
+pub fn printed_stored(bytes: &[u8]) -> String {
+    text(bytes, in_rows)
+}
+
+/// The text for a file, with the rows of its samples.
+fn text(bytes: &[u8], rows: fn(u32, &[u16]) -> Vec<u16>) -> String {
     let picture = read(bytes);
     match picture.number {
-        0 => paths(&Regions::of(picture.n, &picture.samples)).iter().map(|path| path.clone() + "\n").collect(),
+        0 => {
+            let regions = Regions::of(picture.n, &rows(picture.n, &picture.samples));
+            paths(&regions).iter().map(|path| path.clone() + "\n").collect()
+        }
         number => format!("refused {number}\n"),
     }
 }
@@ -34,6 +49,14 @@ mod tests {
         let bytes = b"P5 4 4 9 \x01\x01\x01\x01\x01\x02\x02\x01\x01\x02\x02\x01\x01\x01\x01\x01";
         assert_eq!(printed(bytes), "M0 0H4V4H0ZM1 3H3V1H1Z\nM1 1H3V3H1Z\n");
         assert_eq!(printed(b"P5 1 1 9 "), "refused 13\n");
+    }
+
+    #[test]
+    fn dial_2_in_block_order() {
+        let bytes = b"P5 4 4 9 \x01\x01\x01\x02\x01\x01\x01\x01\x01\x01\x01\x01\x03\x03\x03\x03";
+        assert_eq!(printed_stored(bytes), "M0 0H4V2H2V1H1V2H2V4H0Z\nM1 1H2V2H1Z\nM2 2H4V4H2Z\n");
+        assert_eq!(printed(bytes), "M0 0H3V1H4V3H0Z\nM3 0H4V1H3Z\nM0 3H4V4H0Z\n");
+        assert_eq!(printed_stored(&bytes[..24]), "refused 13\n");
     }
 
     #[test]

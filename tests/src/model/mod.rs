@@ -2,6 +2,7 @@
 
 pub mod blocks;
 pub mod lines;
+pub mod orders;
 pub mod outlines;
 pub mod overlay;
 pub mod paths;

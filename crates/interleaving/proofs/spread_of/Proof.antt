@@ -14,10 +14,10 @@ element-copy-out-result c = search needs
 cast-result : tie.Need-cast-result
 cast-result c =
     let a = c .before in
-    omega (arith, entry-is-spread (a .args .table .now) (a .pre) (a .args .i) (search needs), spread-below 8 (a .args .i))
+    omega (arith, entry-is-spread (a .args .table .now) (a .pre .0) (a .args .i) (a .pre .1), spread-below 8 (a .args .i))
 
 returns : tie.Need-returns
-returns c = let a = c .before in entry-is-spread (a .args .table .now) (a .pre) (a .args .i) (search needs)
+returns c = let a = c .before in entry-is-spread (a .args .table .now) (a .pre .0) (a .args .i) (a .pre .1)
 
 pub spread-of-spec : {M : Type 1} → statement M
 spread-of-spec = tie.close (tie.spec mul-result element-copy-out-result cast-result returns)

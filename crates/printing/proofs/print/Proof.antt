@@ -55,19 +55,19 @@ returns-3 c =
     let read = at .before .before .before in
     eight-printed (omega (arith, read .before .before .if1 .left)) (omega arith) (read .read .ensures) (at .before .if2 .left) (at .pixels .ensures) (omega (arith, c .if3 .taken))
 
-cast-samples : tie.Need-cast-samples
-cast-samples c = search needs
+cast-whole : tie.Need-cast-whole
+cast-whole c = search needs
 
-array-share-prefix-raster : tie.Need-array-share-prefix-raster
-array-share-prefix-raster c = inside c
+array-share-prefix-samples : tie.Need-array-share-prefix-samples
+array-share-prefix-samples c = inside c
 
-slice-aggregate-write-picture : tie.Need-slice-aggregate-write-picture
-slice-aggregate-write-picture c =
+slice-aggregate-draw : tie.Need-slice-aggregate-draw
+slice-aggregate-draw c =
     let read = c .before .before .before .before .before .before .read in
     omega (arith, length-take (read .result .count) (read .last .1 .0), inside (c .before))
 
-write-picture-requires : tie.Need-write-picture-requires
-write-picture-requires c κs =
+draw-requires : tie.Need-draw-requires
+draw-requires c κs =
     let at = c .before .before .before .before in
     let read = at .before .before .before in
     drawing (omega (arith, read .before .before .if1 .left)) (omega arith) (read .read .ensures) (at .before .if2 .left) (at .pixels .ensures) (omega (arith, c .before .before .before .if3 .left))
@@ -77,7 +77,7 @@ cast-count c =
     let tested = c .before .before .before .before .before .before in
     let at = tested .before in
     let read = at .before .before .before in
-    omega (arith, count-fits (omega (arith, read .before .before .if1 .left)) (omega arith) (read .read .ensures) (at .before .if2 .left) (at .pixels .ensures) (tested .if3 .left) (c .before .before .write-picture .ensures))
+    omega (arith, count-fits (omega (arith, read .before .before .if1 .left)) (omega arith) (read .read .ensures) (at .before .if2 .left) (at .pixels .ensures) _ (tested .if3 .left) (c .before .before .draw .ensures))
 
 same-length-3 : tie.Need-same-length-3
 same-length-3 c = search needs
@@ -87,7 +87,7 @@ returns-4 c =
     let tested = c .before .before .before .before .before .before in
     let at = tested .before in
     let read = at .before .before .before in
-    lines-printed (omega (arith, read .before .before .if1 .left)) (omega arith) (read .read .ensures) (at .before .if2 .left) (at .pixels .ensures) (tested .if3 .left) (c .before .before .write-picture .ensures)
+    lines-printed (omega (arith, read .before .before .if1 .left)) (omega arith) (read .read .ensures) (at .before .if2 .left) (at .pixels .ensures) _ (tested .if3 .left) (c .before .before .draw .ensures)
 
 pub print-spec : {M : Type 1} → statement M
 print-spec =
@@ -104,10 +104,10 @@ print-spec =
     pixels-requires
     mul-if3
     returns-3
-    cast-samples
-    array-share-prefix-raster
-    slice-aggregate-write-picture
-    write-picture-requires
+    cast-whole
+    array-share-prefix-samples
+    slice-aggregate-draw
+    draw-requires
     cast-count
     same-length-3
     returns-4)

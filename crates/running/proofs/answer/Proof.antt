@@ -3,8 +3,8 @@ use native.Mathlib.Omega.{arith}
 use lib.ListN.{length-take}
 use borrow.Author.Needs.{needs}
 use Rattle.printing.specs.Callers.{count-within, whole-text-written}
-use Rattle.outlines.proofs.answer.Statement.{statement}
-use Rattle.outlines.proofs.answer.Tie as tie
+use Rattle.running.proofs.answer.Statement.{statement}
+use Rattle.running.proofs.answer.Tie as tie
 
 part : tie.Need-slice-aggregate-print
 part c = search needs
@@ -21,10 +21,10 @@ same-length c = search needs
 returns : tie.Need-returns
 returns c =
     let called = c .before .before .before in
-    let large = called .before .before .before .before .before .pre .2 in
+    let large = called .before .before .before .before .before .pre .1 in
     let p = called .print .ensures in (
       whole-text-written p large,
-      (count-within p, omega (arith, count-within p, length-take (called .print .result .count) (called .print .last .1 .0))),
+      (count-within p, omega (arith, count-within p, length-take (called .print .result .count) (called .print .last .1 .1 .0))),
     )
 
 pub answer-spec : {M : Type 1} → statement M

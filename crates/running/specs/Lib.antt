@@ -1,0 +1,2 @@
+-- What the programs do.
+pub mod Ran

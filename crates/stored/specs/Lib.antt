@@ -1,0 +1,4 @@
+-- Files in block order: their text is that of the file with its samples put into rows.
+pub mod Files
+pub mod Putting
+pub mod SameText
