@@ -4,7 +4,7 @@ use crate::calls::{agrees, PictureOut};
 use crate::compare::Shown;
 use crate::faults;
 use crate::model::orders::in_rows;
-use crate::model::pgm::{read, read_into, Read};
+use crate::model::pgm::{read, read_into, samples, Read};
 use crate::random::Random;
 use crate::rasters;
 
@@ -52,12 +52,9 @@ pub fn any_file(random: &mut Random) -> Vec<u8> {
     [bytes, behind].concat()
 }
 
-/// A file with its samples, which stand in block order, put into rows; a refused one as it stands.
+/// A file with its samples, which stand in block order, put into rows; one refused with 10 to 13 as it stands.
 pub fn put_into_rows(bytes: &[u8]) -> Vec<u8> {
-    let Read { number, n, maxval, samples } = read(bytes);
-    if number != 0 {
-        return bytes.to_vec();
-    }
+    let Ok(Read { n, maxval, samples, .. }) = samples(bytes) else { return bytes.to_vec() };
     let rows = sample_bytes(maxval, &in_rows(n, &samples));
     [&bytes[..bytes.len() - rows.len()], &rows].concat()
 }
@@ -100,7 +97,8 @@ mod tests {
         assert_eq!(put_into_rows(b"P5#\n4 4 255 abcdefghijklmnop"), b"P5#\n4 4 255 abefcdghijmnklop");
         let wide = put_into_rows(b"P5 4 4 65535 AaBbCcDdEeFfGgHhIiJjKkLlMmNnOoPp");
         assert_eq!(wide, b"P5 4 4 65535 AaBbEeFfCcDdGgHhIiJjMmNnKkLlOoPp");
-        for refused in [&b"P5 4 4 99 abcdefghijklmnop"[..], b"P5 4 4 255 abcdefghijklmno", b""] {
+        assert_eq!(put_into_rows(b"P5 4 4 99 abcdefghijklmnop"), b"P5 4 4 99 abefcdghijmnklop", "samples above maxval");
+        for refused in [&b"P5 4 4 255 abcdefghijklmno"[..], b"P5 3 3 255 abcdefghi", b""] {
             assert_eq!(put_into_rows(refused), refused);
         }
     }

@@ -5,7 +5,7 @@ ghost use Rattle.interleaving.specs.Codes.{code};
 ghost use Rattle.quadtree.specs.Number.{number};
 ghost use Rattle.merging.specs.Promise.{FromRaster};
 ghost use Rattle.painting.specs.Promise.{ToRaster};
-ghost use Rattle.rearranging.specs.Ways.{toBlocks, toRows};
+ghost use Rattle.rearranging.specs.Ways.{toBlockOrder, toRows};
 ghost use Rattle.rearranging.specs.Promise.{Rearranging};
 ghost use Rattle.quadtree.specs.BlockLists.{listOf};
 ghost use Rattle.overlaying.specs.Promise.{Overlay};
@@ -110,7 +110,7 @@ pub extern "C" fn nettlestair_raster_from_blocks(
 
 #[no_mangle]
 pub extern "C" fn nettlestair_to_block_order(n: u32, raster: &[u16], stored: &mut [u16]) -> Written
-    ensures { λ r. ⌜ Rearranging toBlocks n (now (raster .entry)) (now (stored .entry)) (now (stored .exit)) (record { number = r .number; count = r .count }) ⌝ }
+    ensures { λ r. ⌜ Rearranging toBlockOrder n (now (raster .entry)) (now (stored .entry)) (now (stored .exit)) (record { number = r .number; count = r .count }) ⌝ }
 {
     let ordered = rearranging::to_block_order(n, raster, stored);
     Written {

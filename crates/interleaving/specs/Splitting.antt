@@ -63,12 +63,12 @@ unfolding row
 row-zero zero = refl
 row-zero (suc k) = omega (arith, row-zero k)
 
--- More digits than a number has change nothing.
 code-zero : (k : ℕ) → code k 0 0 ≡ 0
 unfolding code
 code-zero zero = refl
 code-zero (suc k) = omega (arith, code-zero k)
 
+-- More digits than a number has change nothing.
 pub code-wider : (k m x y : ℕ) → k ≤ m → x < 2 ^ k → y < 2 ^ k → code m x y ≡ code k x y
 code-wider k m x y h a b =
     let e : m ≡ k + (m - k) = omega arith in

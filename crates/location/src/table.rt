@@ -2,7 +2,7 @@
 ghost use mathlib.Core.Path.{_≡_};
 ghost use Rattle.interleaving.specs.Spreads.{spreads};
 
-// The table, for a caller that lends it to `interleaving::code_by_table`.
+// The table, for a caller that lends it to `interleaving::code8` or `code_by_table`.
 pub fn spreads() -> [u16; 256]
     ensures { λ r. ⌜ r ≡ spreads ⌝ }
 {

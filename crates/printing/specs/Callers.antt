@@ -10,6 +10,7 @@ use lib.Dec.{ltb}
 use lib.ListN.{length, take, drop, length-append}
 use Rattle.sequences.specs.Cases.{when, first-some, first-none}
 use Rattle.sequences.specs.Over.{over, take-over}
+use Rattle.answers.specs.Put.{Put}
 use Rattle.answers.specs.declared.Written.{Written}
 use Rattle.pgm.specs.Picture.{scan}
 use Rattle.pgm.specs.Accepted.{number-low}
@@ -50,6 +51,11 @@ module _ {order : Order} {bytes text bytes′ text′ : List ℕ} {w : Written} 
   module _ (large : textRoom ≤ length text) where
     pub whole-text-written : take (w .count) text′ ≡ wholeText order bytes
     whole-text-written = text-written ∙ all-printed bytes order (length text) large .0
+
+    pub whole-text-put : Put (wholeText order bytes) text text′ (w .count)
+    whole-text-put =
+        let all : printed order bytes (length text) ≡ wholeText order bytes = all-printed bytes order (length text) large .0 in
+        record { count-is = p .count-is ∙ ap length all; list = p .in-text ∙ ap (λ (l : List ℕ). over l text) all }
 
     pub number-of-input : w .number ≡ inputNumber bytes
     number-of-input = p .number-is ∙ all-printed bytes order (length text) large .1

@@ -39,7 +39,7 @@ module _ {n : ℕ} {samples text lent raster : List ℕ} {r : Written} (f : Rast
   pub rows-fit : RasterFits n (take (r .count) raster) text
   rows-fit = record { low = f .low; whole = ap length in-rows ∙ length-in-rows n samples; enough = f .enough }
 
-  pub drawn-by-blocks : {order : Order} {text₁ text′ : List ℕ} {k : ℕ} → order ≡ Order.Blocks
+  pub drawn-by-blocks : {order : Order} {text₁ text′ : List ℕ} {k : ℕ} → order ≡ Order.BlockOrder
       → Put (imageText n (inCodeOrder n (take (r .count) raster))) text₁ text′ k → Put (imageText n (imageOf order n samples)) text₁ text′ k
   unfolding imageOf
   drawn-by-blocks {order} {text₁} {text′} {k} e q =

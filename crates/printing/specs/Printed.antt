@@ -40,7 +40,7 @@ fifteen-before-ten = refl
 unfoldable pub imageOf : Order → ℕ → List ℕ → List ℕ
 unfolding inCodeOrder
 imageOf Order.Rows n samples = inCodeOrder n samples
-imageOf Order.Blocks n samples = samples
+imageOf Order.BlockOrder n samples = samples
 
 -- The lines of an accepted picture.
 unfoldable pub pictureText : Order → List ℕ → List ℕ

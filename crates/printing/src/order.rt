@@ -7,7 +7,7 @@ ghost use Rattle.printing.specs.Printed.{imageOf};
 // Row by row, north row first; or in block order, which is rising location code.
 pub enum Order {
     Rows,
-    Blocks,
+    BlockOrder,
 }
 
 // The lines of a picture's samples, which are put into rows first where they stand in block order.
@@ -17,7 +17,7 @@ pub(crate) fn draw(n: u32, samples: &[u16], order: Order, text: &mut [u8]) -> us
 {
     match order {
         Order::Rows => drawing::write_picture(n, samples, text),
-        Order::Blocks => {
+        Order::BlockOrder => {
             let mut raster = [0u16; 4096];
             let done = rearranging::from_block_order(n, samples, &mut raster);
             let count = done.count as usize;

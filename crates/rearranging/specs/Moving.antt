@@ -12,83 +12,83 @@ use Rattle.rearranging.specs.Ways.{Way, rearranged, sourcePlace, targetP
 -- The target with the entry of the pixel at the place i of the rows in it.
 unfoldable pub withEntry : Way → ℕ → List ℕ → ℕ → List ℕ → List ℕ
 unfolding sourcePlace targetPlace
-withEntry w n source i target = set target (targetPlace w n i) (getD source (sourcePlace w n i) 0)
+withEntry way n source i target = set target (targetPlace way n i) (getD source (sourcePlace way n i) 0)
 
 -- The same of `count` pixels, from the place i on.
 unfoldable pub moved : Way → ℕ → List ℕ → ℕ → ℕ → List ℕ → List ℕ
 unfolding withEntry
-moved w n source i zero target = target
-moved w n source i (suc count) target = moved w n source (i + 1) count (withEntry w n source i target)
+moved way n source i zero target = target
+moved way n source i (suc count) target = moved way n source (i + 1) count (withEntry way n source i target)
 
-module _ (w : Way) (n : ℕ) (source : List ℕ) where
-  length-with : (i : ℕ) (target : List ℕ) → length (withEntry w n source i target) ≡ length target
+module _ (way : Way) (n : ℕ) (source : List ℕ) where
+  length-with : (i : ℕ) (target : List ℕ) → length (withEntry way n source i target) ≡ length target
   unfolding withEntry
-  length-with i target = length-set target (targetPlace w n i) (getD source (sourcePlace w n i) 0)
+  length-with i target = length-set target (targetPlace way n i) (getD source (sourcePlace way n i) 0)
 
-  pub length-moved : (i count : ℕ) (target : List ℕ) → length (moved w n source i count target) ≡ length target
+  pub length-moved : (i count : ℕ) (target : List ℕ) → length (moved way n source i count target) ≡ length target
   unfolding moved
   length-moved i zero target = refl
-  length-moved i (suc count) target = length-moved (i + 1) count (withEntry w n source i target) ∙ length-with i target
+  length-moved i (suc count) target = length-moved (i + 1) count (withEntry way n source i target) ∙ length-with i target
 
   -- One part after another.
-  pub moved-more : (i a b : ℕ) (target : List ℕ) → moved w n source i (a + b) target ≡ moved w n source (i + a) b (moved w n source i a target)
+  pub moved-more : (i a b : ℕ) (target : List ℕ) → moved way n source i (a + b) target ≡ moved way n source (i + a) b (moved way n source i a target)
   unfolding moved
   moved-more i zero b target =
       let e : 0 + b ≡ b = omega arith in
       let f : i ≡ i + 0 = omega arith in
-      ap (λ (k : ℕ). moved w n source i k target) e ∙ ap (λ (j : ℕ). moved w n source j b target) f
+      ap (λ (k : ℕ). moved way n source i k target) e ∙ ap (λ (j : ℕ). moved way n source j b target) f
   moved-more i (suc a) b target =
       let e : suc a + b ≡ suc (a + b) = omega arith in
       let f : i + 1 + a ≡ i + suc a = omega arith in
-      ap (λ (k : ℕ). moved w n source i k target) e
-      ∙ moved-more (i + 1) a b (withEntry w n source i target)
-      ∙ ap (λ (j : ℕ). moved w n source j b (moved w n source (i + 1) a (withEntry w n source i target))) f
+      ap (λ (k : ℕ). moved way n source i k target) e
+      ∙ moved-more (i + 1) a b (withEntry way n source i target)
+      ∙ ap (λ (j : ℕ). moved way n source j b (moved way n source (i + 1) a (withEntry way n source i target))) f
 
   -- A place that none of the entries goes to.
-  untouched : (i count : ℕ) (target : List ℕ) (c : ℕ) → ((j : ℕ) → i ≤ j → j < i + count → c ≡ targetPlace w n j → ⊥)
-      → getD (moved w n source i count target) c 0 ≡ getD target c 0
+  untouched : (i count : ℕ) (target : List ℕ) (c : ℕ) → ((j : ℕ) → i ≤ j → j < i + count → c ≡ targetPlace way n j → ⊥)
+      → getD (moved way n source i count target) c 0 ≡ getD target c 0
   unfolding moved withEntry
   untouched i zero target c apart = refl
   untouched i (suc count) target c apart =
-      untouched (i + 1) count (withEntry w n source i target) c (λ j a b. apart j (omega arith) (omega arith))
-      ∙ getD-set-other target (targetPlace w n i) c (getD source (sourcePlace w n i) 0) 0 (apart i (omega arith) (omega arith))
+      untouched (i + 1) count (withEntry way n source i target) c (λ j a b. apart j (omega arith) (omega arith))
+      ∙ getD-set-other target (targetPlace way n i) c (getD source (sourcePlace way n i) 0) 0 (apart i (omega arith) (omega arith))
 
   -- The place of one of the entries.
   entry-moved : (i count : ℕ) (target : List ℕ) → i + count ≤ 4 ^ n → 4 ^ n ≤ length target → (j : ℕ) → i ≤ j → j < i + count
-      → getD (moved w n source i count target) (targetPlace w n j) 0 ≡ getD source (sourcePlace w n j) 0
+      → getD (moved way n source i count target) (targetPlace way n j) 0 ≡ getD source (sourcePlace way n j) 0
   unfolding moved withEntry
   entry-moved i zero target within room j a b = absurd (omega arith)
   entry-moved i (suc count) target within room j a b =
-      pick (ℕ-discrete j i) (entry-moved (i + 1) count (withEntry w n source i target) (omega arith) (omega (arith, length-with i target)) j)
+      pick (ℕ-discrete j i) (entry-moved (i + 1) count (withEntry way n source i target) (omega arith) (omega (arith, length-with i target)) j)
     where
-      first : getD (moved w n source (i + 1) count (withEntry w n source i target)) (targetPlace w n i) 0 ≡ getD source (sourcePlace w n i) 0
+      first : getD (moved way n source (i + 1) count (withEntry way n source i target)) (targetPlace way n i) 0 ≡ getD source (sourcePlace way n i) 0
       first =
-          untouched (i + 1) count (withEntry w n source i target) (targetPlace w n i)
-          (λ k c d e. let same : i ≡ k = target-apart w n i k (omega arith) (omega arith) e in let none : ⊥ = omega arith in none)
-          ∙ getD-set-same target (targetPlace w n i) (getD source (sourcePlace w n i) 0) 0 (omega (arith, target-inside w n i (omega arith)))
+          untouched (i + 1) count (withEntry way n source i target) (targetPlace way n i)
+          (λ k c d e. let same : i ≡ k = target-apart way n i k (omega arith) (omega arith) e in let none : ⊥ = omega arith in none)
+          ∙ getD-set-same target (targetPlace way n i) (getD source (sourcePlace way n i) 0) 0 (omega (arith, target-inside way n i (omega arith)))
 
-      pick : Dec (j ≡ i) → (i + 1 ≤ j → j < i + 1 + count → getD (moved w n source (i + 1) count (withEntry w n source i target)) (targetPlace w n j) 0 ≡ getD source (sourcePlace w n j) 0)
-          → getD (moved w n source (i + 1) count (withEntry w n source i target)) (targetPlace w n j) 0 ≡ getD source (sourcePlace w n j) 0
+      pick : Dec (j ≡ i) → (i + 1 ≤ j → j < i + 1 + count → getD (moved way n source (i + 1) count (withEntry way n source i target)) (targetPlace way n j) 0 ≡ getD source (sourcePlace way n j) 0)
+          → getD (moved way n source (i + 1) count (withEntry way n source i target)) (targetPlace way n j) 0 ≡ getD source (sourcePlace way n j) 0
       pick (yes e) later = rw e first
       pick (no d) later = later (omega arith) (omega arith)
 
   -- All entries moved: the rearranged raster at the front of the target, and what lies beyond unchanged.
-  pub all-moved : (target : List ℕ) → 4 ^ n ≤ length target → moved w n source 0 (4 ^ n) target ≡ over (rearranged w n source) target
+  pub all-moved : (target : List ℕ) → 4 ^ n ≤ length target → moved way n source 0 (4 ^ n) target ≡ over (rearranged way n source) target
   all-moved target room =
-      ext-getD 0 (moved w n source 0 (4 ^ n) target) (over (rearranged w n source) target)
-      (length-moved 0 (4 ^ n) target ∙ sym (length-over (rearranged w n source) target (omega (arith, length-rearranged w n source))))
+      ext-getD 0 (moved way n source 0 (4 ^ n) target) (over (rearranged way n source) target)
+      (length-moved 0 (4 ^ n) target ∙ sym (length-over (rearranged way n source) target (omega (arith, length-rearranged way n source))))
       (λ c h. pick c (decLt c (4 ^ n)))
     where
-      pick : (c : ℕ) → Dec (c < 4 ^ n) → getD (moved w n source 0 (4 ^ n) target) c 0 ≡ getD (over (rearranged w n source) target) c 0
+      pick : (c : ℕ) → Dec (c < 4 ^ n) → getD (moved way n source 0 (4 ^ n) target) c 0 ≡ getD (over (rearranged way n source) target) c 0
       pick c (yes inside) =
-          let from = target-taken w n c inside in
+          let from = target-taken way n c inside in
           let i : ℕ = from .0 in
-          let same : getD (moved w n source 0 (4 ^ n) target) (targetPlace w n i) 0 ≡ getD (rearranged w n source) (targetPlace w n i) 0 =
-          entry-moved 0 (4 ^ n) target (omega arith) room i (omega arith) (omega (arith, from .1)) ∙ sym (entry-there w n source i (from .1)) in
-          ap (λ (d : ℕ). getD (moved w n source 0 (4 ^ n) target) d 0) (sym (from .2))
+          let same : getD (moved way n source 0 (4 ^ n) target) (targetPlace way n i) 0 ≡ getD (rearranged way n source) (targetPlace way n i) 0 =
+          entry-moved 0 (4 ^ n) target (omega arith) room i (omega arith) (omega (arith, from .1)) ∙ sym (entry-there way n source i (from .1)) in
+          ap (λ (d : ℕ). getD (moved way n source 0 (4 ^ n) target) d 0) (sym (from .2))
           ∙ same
-          ∙ ap (λ (d : ℕ). getD (rearranged w n source) d 0) (from .2)
-          ∙ sym (over-inside (rearranged w n source) target c (omega (arith, length-rearranged w n source)))
+          ∙ ap (λ (d : ℕ). getD (rearranged way n source) d 0) (from .2)
+          ∙ sym (over-inside (rearranged way n source) target c (omega (arith, length-rearranged way n source)))
       pick c (no beyond) =
-          untouched 0 (4 ^ n) target c (λ j a b e. let in-image : targetPlace w n j < 4 ^ n = target-inside w n j (omega arith) in let none : ⊥ = omega arith in none)
-          ∙ sym (over-beyond (rearranged w n source) target c (omega (arith, length-rearranged w n source)))
+          untouched 0 (4 ^ n) target c (λ j a b e. let in-image : targetPlace way n j < 4 ^ n = target-inside way n j (omega arith) in let none : ⊥ = omega arith in none)
+          ∙ sym (over-beyond (rearranged way n source) target c (omega (arith, length-rearranged way n source)))

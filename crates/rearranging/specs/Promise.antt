@@ -1,5 +1,5 @@
 -- What both functions promise: the answer, and the later content of the target.
-use mathlib.Core.Path.{_≡_, refl, sym, _∙_}
+use mathlib.Core.Path.{_≡_, refl, sym, ap, _∙_}
 use mathlib.Core.List.{List}
 use Prim.Native.Nat.{ℕ, zero, suc, _^_, _≤_, _<_}
 use native.Mathlib.Omega.{arith}
@@ -22,8 +22,8 @@ rearrangeNumber n source target = sourceNumber n source (ltb target (4 ^ n))
 
 -- A raster rearranged, the target before and target′ after: the number, how many entries were written, and the rearranged raster at the
 -- front of the target; a refusal writes nothing.
-pub record Rearranging (w : Way) (n : ℕ) (source target target′ : List ℕ) (r : Written) : Type 0 where
-  pub writes : Writes (rearrangeNumber n (length source) (length target)) (rearranged w n source) target target′ r
+pub record Rearranging (way : Way) (n : ℕ) (source target target′ : List ℕ) (r : Written) : Type 0 where
+  pub writes : Writes (rearrangeNumber n (length source) (length target)) (rearranged way n source) target target′ r
 
 -- The number cause by cause, by the lengths of source and target.
 module _ (n source target : ℕ) where
@@ -58,22 +58,23 @@ fits {n} {source} {target} e =
     record { small = a .0; whole = a .1; room = ltb-false target (4 ^ n) (a .2) }
 
 -- The answers in the order of the tests, and what was moved; `whole` is the number of pixels.
-module _ (w : Way) {n : ℕ} {source target : List ℕ} {fault : ℕ} (e : fault ≡ rearrangeNumber n (length source) (length target)) where
-  pub rearrange-refused : (fault ≡ 0 → ⊥) → Rearranging w n source target target (record { number = fault; count = 0 })
-  rearrange-refused some = record { writes = pick fault e some }
+module _ (way : Way) {n : ℕ} {source target : List ℕ} {fault : ℕ} (e : fault ≡ rearrangeNumber n (length source) (length target)) where
+  pub rearrange-refused : {r : Written} → (fault ≡ 0 → ⊥) → r ≡ record { number = fault; count = 0 } → Rearranging way n source target target r
+  rearrange-refused {r} some answered =
+      record { writes = pick fault e some (ap (λ (x : Written). x .number) answered) (ap (λ (x : Written). x .count) answered) }
     where
-      pick : (k : ℕ) → k ≡ rearrangeNumber n (length source) (length target) → (k ≡ 0 → ⊥)
-          → Writes (rearrangeNumber n (length source) (length target)) (rearranged w n source) target target (record { number = k; count = 0 })
-      pick zero h d = absurd (d refl)
-      pick (suc k) h d = writes-none (record { number = suc k; count = 0 }) k (sym h) refl refl
+      pick : (k : ℕ) → k ≡ rearrangeNumber n (length source) (length target) → (k ≡ 0 → ⊥) → r .number ≡ k → r .count ≡ 0
+          → Writes (rearrangeNumber n (length source) (length target)) (rearranged way n source) target target r
+      pick zero h d a b = absurd (d refl)
+      pick (suc k) h d a b = writes-none r k (sym h) a b
 
-  pub rearrange-done : {target′ : List ℕ} {whole : ℕ} → fault ≡ 0 → whole ≡ pixelsOf n → target′ ≡ over (rearranged w n source) target
-      → Rearranging w n source target target′ (record { number = 0; count = whole })
+  pub rearrange-done : {target′ : List ℕ} {whole : ℕ} → fault ≡ 0 → whole ≡ pixelsOf n → target′ ≡ over (rearranged way n source) target
+      → Rearranging way n source target target′ (record { number = 0; count = whole })
   rearrange-done {target′} {whole} z size h =
       let number : rearrangeNumber n (length source) (length target) ≡ 0 = sym e ∙ z in
       let all : whole ≡ 4 ^ n = size ∙ pixels-are-power n (omega (arith, fits number .small)) in
-      record { writes = writes-all (record { number = 0; count = whole }) number refl (record { count-is = all ∙ sym (length-rearranged w n source); list = h }) }
+      record { writes = writes-all (record { number = 0; count = whole }) number refl (record { count-is = all ∙ sym (length-rearranged way n source); list = h }) }
 
--- 4^n is at most 65,536 there.
-pub few-pixels : {n source target whole : ℕ} → Fits n source target → whole ≡ pixelsOf n → whole ≤ 65536
-few-pixels {n} f size = omega (arith, size, pixels-are-power n (omega (arith, f .small)), pow4-mono (f .small))
+-- The number of pixels there.
+pub at-most-65536 : {n source target whole : ℕ} → Fits n source target → whole ≡ pixelsOf n → whole ≤ 65536
+at-most-65536 {n} f size = omega (arith, size, pixels-are-power n (omega (arith, f .small)), pow4-mono (f .small))

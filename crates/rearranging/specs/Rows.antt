@@ -2,7 +2,7 @@
 use mathlib.Core.Path.{_≡_, sym, ap, ap₂, _∙_}
 use mathlib.Core.List.{List}
 use Prim.Native.Nat.{ℕ, suc, _+_, _-_, _*_, _^_, _≤_, _<_}
-use native.Mathlib.Nat.{suc-mul, zero-mul, mul-lt-mul-of-pos-right}
+use native.Mathlib.Nat.{suc-mul, zero-mul}
 use native.Mathlib.Omega.{arith}
 use lib.ListN.{length, getD, set}
 use Rattle.sequences.specs.Over.{over}
@@ -12,7 +12,7 @@ use Rattle.interleaving.specs.Interleaving.{code-below}
 use Rattle.interleaving.specs.Splitting.{code-wider}
 use Rattle.interleaving.specs.Spreads.{spreads}
 use Rattle.location.specs.Levels.{sideOf, side-is-power}
-use Rattle.rearranging.specs.Ways.{Way, toBlocks, toRows, rearranged, codeAt, sourcePlace, targetPlace, pixel-inside, code-of-pixel}
+use Rattle.rearranging.specs.Ways.{Way, toBlockOrder, toRows, rearranged, codeAt, sourcePlace, targetPlace, pixel-inside, code-of-pixel}
 use Rattle.rearranging.specs.Moving.{withEntry, moved, length-moved, moved-more, all-moved}
 use Rattle.rearranging.specs.Promise.{Fits}
 
@@ -31,11 +31,9 @@ module _ {n : ℕ} {table : List ℕ} {y source target w : ℕ} (f : RowFits n t
   -- The number of pixels, and the bytes of their coordinates.
   pub few : (4 ^ n ≤ 65536) × (y < 256) × (y * w < 65536)
   few =
-      let rows : y * w < 4 ^ n = lt-of-lt-of-eq (mul-lt-mul-of-pos-right (f .inside) (pow2-pos n)) in
-      (pow4-mono (f .fit .small), omega (arith, f .inside, pow2-mono (f .fit .small)), omega (arith, pow4-mono (f .fit .small), rows))
-    where
-      lt-of-lt-of-eq : y * 2 ^ n < 2 ^ n * 2 ^ n → y * w < 4 ^ n
-      lt-of-lt-of-eq h = omega (arith, ap (λ (k : ℕ). y * k) (width (f .fit) side), square-of-side n)
+      let small = f .fit .small in
+      let start : y * w < 4 ^ n = omega (arith, ap (λ (k : ℕ). y * k) (width (f .fit) side), pixel-inside n (pow2-pos n) (f .inside)) in
+      (pow4-mono small, omega (arith, f .inside, pow2-mono small), omega (arith, start, pow4-mono small))
 
   module _ {x : ℕ} (less : x < w) where
     in-row : x < 2 ^ n
@@ -60,7 +58,7 @@ module _ {n : ℕ} {table : List ℕ} {y source target w : ℕ} (f : RowFits n t
     code-is = code-by-bytes ∙ sym (code-of-pixel n in-row (f .inside))
 
     pub pixel-stored : {c : ℕ} (raster stored : List ℕ) → c ≡ code 8 x y
-        → set stored c (getD raster (y * w + x) 0) ≡ withEntry toBlocks n raster (y * 2 ^ n + x) stored
+        → set stored c (getD raster (y * w + x) 0) ≡ withEntry toBlockOrder n raster (y * 2 ^ n + x) stored
     unfolding withEntry targetPlace sourcePlace
     pixel-stored raster stored e = ap₂ (λ (d i : ℕ). set stored d (getD raster i 0)) (e ∙ code-is) at
 
@@ -71,19 +69,19 @@ module _ {n : ℕ} {table : List ℕ} {y source target w : ℕ} (f : RowFits n t
 
 -- ---- the pixels of the row y, of which those before x are moved
 
-pub record InRow (w : Way) (n : ℕ) (source : List ℕ) (y : ℕ) (target₀ target : List ℕ) (x : ℕ) : Type 0 where
+pub record RowMoved (way : Way) (n : ℕ) (source : List ℕ) (y : ℕ) (target₀ target : List ℕ) (x : ℕ) : Type 0 where
   pub within : x ≤ 2 ^ n
-  pub left : moved w n source (y * 2 ^ n + x) (2 ^ n - x) target ≡ moved w n source (y * 2 ^ n) (2 ^ n) target₀
+  pub left : moved way n source (y * 2 ^ n + x) (2 ^ n - x) target ≡ moved way n source (y * 2 ^ n) (2 ^ n) target₀
 
-module _ (w : Way) (n : ℕ) (source : List ℕ) (y : ℕ) where
-  pub row-begun : (target : List ℕ) → InRow w n source y target target 0
+module _ (way : Way) (n : ℕ) (source : List ℕ) (y : ℕ) where
+  pub row-begun : (target : List ℕ) → RowMoved way n source y target target 0
   row-begun target =
       let e : y * 2 ^ n + 0 ≡ y * 2 ^ n = omega arith in
       let f : 2 ^ n - 0 ≡ 2 ^ n = omega arith in
-      record { within = omega arith; left = ap₂ (λ (i k : ℕ). moved w n source i k target) e f }
+      record { within = omega arith; left = ap₂ (λ (i k : ℕ). moved way n source i k target) e f }
 
-  module _ {target₀ target : List ℕ} {x : ℕ} (p : InRow w n source y target₀ target x) where
-    pub row-more : {target′ : List ℕ} → x < 2 ^ n → target′ ≡ withEntry w n source (y * 2 ^ n + x) target → InRow w n source y target₀ target′ (x + 1)
+  module _ {target₀ target : List ℕ} {x : ℕ} (p : RowMoved way n source y target₀ target x) where
+    pub row-more : {target′ : List ℕ} → x < 2 ^ n → target′ ≡ withEntry way n source (y * 2 ^ n + x) target → RowMoved way n source y target₀ target′ (x + 1)
     unfolding moved
     row-more {target′} h e =
         let one : 2 ^ n - x ≡ suc (2 ^ n - (x + 1)) = omega arith in
@@ -91,36 +89,36 @@ module _ (w : Way) (n : ℕ) (source : List ℕ) (y : ℕ) where
         record {
           within = omega arith;
           left =
-              ap₂ (λ (i : ℕ) (l : List ℕ). moved w n source i (2 ^ n - (x + 1)) l) next e
-              ∙ sym (ap (λ (k : ℕ). moved w n source (y * 2 ^ n + x) k target) one)
+              ap₂ (λ (i : ℕ) (l : List ℕ). moved way n source i (2 ^ n - (x + 1)) l) next e
+              ∙ sym (ap (λ (k : ℕ). moved way n source (y * 2 ^ n + x) k target) one)
               ∙ p .left;
         }
 
-    pub row-done : 2 ^ n ≤ x → target ≡ moved w n source (y * 2 ^ n) (2 ^ n) target₀
+    pub row-done : 2 ^ n ≤ x → target ≡ moved way n source (y * 2 ^ n) (2 ^ n) target₀
     unfolding moved
     row-done h =
         let none : 2 ^ n - x ≡ 0 = omega arith in
-        sym (ap (λ (k : ℕ). moved w n source (y * 2 ^ n + x) k target) none) ∙ p .left
+        sym (ap (λ (k : ℕ). moved way n source (y * 2 ^ n + x) k target) none) ∙ p .left
 
     pub row-length : length target ≡ length target₀
     row-length =
-        sym (length-moved w n source (y * 2 ^ n + x) (2 ^ n - x) target) ∙ ap length (p .left) ∙ length-moved w n source (y * 2 ^ n) (2 ^ n) target₀
+        sym (length-moved way n source (y * 2 ^ n + x) (2 ^ n - x) target) ∙ ap length (p .left) ∙ length-moved way n source (y * 2 ^ n) (2 ^ n) target₀
 
 -- ---- the rows, of which those before y are moved
 
-pub record InRows (w : Way) (n : ℕ) (source target₀ target : List ℕ) (y : ℕ) : Type 0 where
+pub record RowsMoved (way : Way) (n : ℕ) (source target₀ target : List ℕ) (y : ℕ) : Type 0 where
   pub within : y ≤ 2 ^ n
-  pub left : moved w n source (y * 2 ^ n) ((2 ^ n - y) * 2 ^ n) target ≡ moved w n source 0 (4 ^ n) target₀
+  pub left : moved way n source (y * 2 ^ n) ((2 ^ n - y) * 2 ^ n) target ≡ moved way n source 0 (4 ^ n) target₀
 
-module _ (w : Way) (n : ℕ) (source : List ℕ) where
-  pub rows-begun : (target : List ℕ) → InRows w n source target target 0
+module _ (way : Way) (n : ℕ) (source : List ℕ) where
+  pub rows-begun : (target : List ℕ) → RowsMoved way n source target target 0
   rows-begun target =
       let e : 0 * 2 ^ n ≡ 0 = omega arith in
       let f : 2 ^ n - 0 ≡ 2 ^ n = omega arith in
-      record { within = omega arith; left = ap₂ (λ (i k : ℕ). moved w n source i k target) e (ap (λ (k : ℕ). k * 2 ^ n) f ∙ square-of-side n) }
+      record { within = omega arith; left = ap₂ (λ (i k : ℕ). moved way n source i k target) e (ap (λ (k : ℕ). k * 2 ^ n) f ∙ square-of-side n) }
 
-  module _ {target₀ target : List ℕ} {y : ℕ} (p : InRows w n source target₀ target y) where
-    pub rows-more : {target′ : List ℕ} → y < 2 ^ n → target′ ≡ moved w n source (y * 2 ^ n) (2 ^ n) target → InRows w n source target₀ target′ (y + 1)
+  module _ {target₀ target : List ℕ} {y : ℕ} (p : RowsMoved way n source target₀ target y) where
+    pub rows-more : {target′ : List ℕ} → y < 2 ^ n → target′ ≡ moved way n source (y * 2 ^ n) (2 ^ n) target → RowsMoved way n source target₀ target′ (y + 1)
     rows-more {target′} h e =
         let one : 2 ^ n - y ≡ suc (2 ^ n - (y + 1)) = omega arith in
         let split : (2 ^ n - y) * 2 ^ n ≡ 2 ^ n + (2 ^ n - (y + 1)) * 2 ^ n =
@@ -129,22 +127,22 @@ module _ (w : Way) (n : ℕ) (source : List ℕ) where
         record {
           within = omega arith;
           left =
-              ap₂ (λ (i : ℕ) (l : List ℕ). moved w n source i ((2 ^ n - (y + 1)) * 2 ^ n) l) next e
-              ∙ sym (moved-more w n source (y * 2 ^ n) (2 ^ n) ((2 ^ n - (y + 1)) * 2 ^ n) target)
-              ∙ sym (ap (λ (k : ℕ). moved w n source (y * 2 ^ n) k target) split)
+              ap₂ (λ (i : ℕ) (l : List ℕ). moved way n source i ((2 ^ n - (y + 1)) * 2 ^ n) l) next e
+              ∙ sym (moved-more way n source (y * 2 ^ n) (2 ^ n) ((2 ^ n - (y + 1)) * 2 ^ n) target)
+              ∙ sym (ap (λ (k : ℕ). moved way n source (y * 2 ^ n) k target) split)
               ∙ p .left;
         }
 
     pub rows-length : length target ≡ length target₀
     rows-length =
-        sym (length-moved w n source (y * 2 ^ n) ((2 ^ n - y) * 2 ^ n) target) ∙ ap length (p .left) ∙ length-moved w n source 0 (4 ^ n) target₀
+        sym (length-moved way n source (y * 2 ^ n) ((2 ^ n - y) * 2 ^ n) target) ∙ ap length (p .left) ∙ length-moved way n source 0 (4 ^ n) target₀
 
     pub row-fits : {table : List ℕ} → Fits n (length source) (length target₀) → table ≡ spreads → y < 2 ^ n → RowFits n table y (length source) (length target)
     row-fits f t h = record { fit = record { small = f .small; whole = f .whole; room = omega (arith, f .room, rows-length) }; table-is = t; inside = h }
 
-    pub rows-done : 2 ^ n ≤ y → 4 ^ n ≤ length target₀ → target ≡ over (rearranged w n source) target₀
+    pub rows-done : 2 ^ n ≤ y → 4 ^ n ≤ length target₀ → target ≡ over (rearranged way n source) target₀
     unfolding moved
     rows-done h room =
         let none : 2 ^ n - y ≡ 0 = omega arith in
         let gone : (2 ^ n - y) * 2 ^ n ≡ 0 = ap (λ (k : ℕ). k * 2 ^ n) none ∙ zero-mul (2 ^ n) in
-        sym (ap (λ (k : ℕ). moved w n source (y * 2 ^ n) k target) gone) ∙ p .left ∙ all-moved w n source target₀ room
+        sym (ap (λ (k : ℕ). moved way n source (y * 2 ^ n) k target) gone) ∙ p .left ∙ all-moved way n source target₀ room

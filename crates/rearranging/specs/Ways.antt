@@ -13,18 +13,18 @@ use Rattle.quadtree.specs.Orders.{place-in, place-of-pixel, code-of-place, leng
 
 -- "Rearrange a row-by-row raster into rising location code, and rearrange it back" (document 02, e). Rising location code is block order.
 pub data Way : Type 0 where
-  toBlocks : Way
+  toBlockOrder : Way
   toRows : Way
 
 -- The way back.
 abbrev pub back : Way → Way
-back toBlocks = toRows
-back toRows = toBlocks
+back toBlockOrder = toRows
+back toRows = toBlockOrder
 
 -- What a raster becomes, for every n.
 unfoldable pub rearranged : Way → ℕ → List ℕ → List ℕ
 unfolding inCodeOrder inRows
-rearranged toBlocks n source = inCodeOrder n source
+rearranged toBlockOrder n source = inCodeOrder n source
 rearranged toRows n source = inRows n source
 
 -- The code of the pixel at the place i of a raster.
@@ -32,48 +32,52 @@ unfoldable pub codeAt : ℕ → ℕ → ℕ
 unfolding code
 codeAt n i = code n (i % 2 ^ n) (i / 2 ^ n)
 
+pub code-at-inside : (n i : ℕ) → codeAt n i < 4 ^ n
+unfolding codeAt
+code-at-inside n i = code-below n (i % 2 ^ n) (i / 2 ^ n)
+
 -- That pixel's place in the source, and in the target.
 unfoldable pub sourcePlace : Way → ℕ → ℕ → ℕ
 unfolding codeAt
-sourcePlace toBlocks n i = i
+sourcePlace toBlockOrder n i = i
 sourcePlace toRows n i = codeAt n i
 
 unfoldable pub targetPlace : Way → ℕ → ℕ → ℕ
 unfolding codeAt
-targetPlace toBlocks n i = codeAt n i
+targetPlace toBlockOrder n i = codeAt n i
 targetPlace toRows n i = i
 
 -- Either way and then back gives the first raster.
-pub back-again : (w : Way) (n : ℕ) (first : List ℕ) → length first ≡ 4 ^ n → rearranged (back w) n (rearranged w n first) ≡ first
+pub back-again : (way : Way) (n : ℕ) (first : List ℕ) → length first ≡ 4 ^ n → rearranged (back way) n (rearranged way n first) ≡ first
 unfolding rearranged
-back-again toBlocks n first long = rows-after-code-order n first long
+back-again toBlockOrder n first long = rows-after-code-order n first long
 back-again toRows n first long = code-order-after-rows n first long
 
-pub length-rearranged : (w : Way) (n : ℕ) (source : List ℕ) → length (rearranged w n source) ≡ 4 ^ n
+pub length-rearranged : (way : Way) (n : ℕ) (source : List ℕ) → length (rearranged way n source) ≡ 4 ^ n
 unfolding rearranged
-length-rearranged toBlocks n source = length-in-code-order n source
+length-rearranged toBlockOrder n source = length-in-code-order n source
 length-rearranged toRows n source = length-in-rows n source
 
 -- Each entry goes to its place, no two go to one, and each place of the target is taken.
-pub entry-there : (w : Way) (n : ℕ) (source : List ℕ) (i : ℕ) → i < 4 ^ n → getD (rearranged w n source) (targetPlace w n i) 0 ≡ getD source (sourcePlace w n i) 0
+pub entry-there : (way : Way) (n : ℕ) (source : List ℕ) (i : ℕ) → i < 4 ^ n → getD (rearranged way n source) (targetPlace way n i) 0 ≡ getD source (sourcePlace way n i) 0
 unfolding rearranged targetPlace sourcePlace codeAt
-entry-there toBlocks n source i h =
-    in-code-order-at n source (codeAt n i) (code-below n (i % 2 ^ n) (i / 2 ^ n)) ∙ ap (λ (j : ℕ). getD source j 0) (place-of-pixel n i h)
+entry-there toBlockOrder n source i h =
+    in-code-order-at n source (codeAt n i) (code-at-inside n i) ∙ ap (λ (j : ℕ). getD source j 0) (place-of-pixel n i h)
 entry-there toRows n source i h = in-rows-at n source i h
 
-pub target-inside : (w : Way) (n i : ℕ) → i < 4 ^ n → targetPlace w n i < 4 ^ n
+pub target-inside : (way : Way) (n i : ℕ) → i < 4 ^ n → targetPlace way n i < 4 ^ n
 unfolding targetPlace codeAt
-target-inside toBlocks n i h = code-below n (i % 2 ^ n) (i / 2 ^ n)
+target-inside toBlockOrder n i h = code-at-inside n i
 target-inside toRows n i h = h
 
-pub target-apart : (w : Way) (n i j : ℕ) → i < 4 ^ n → j < 4 ^ n → targetPlace w n i ≡ targetPlace w n j → i ≡ j
+pub target-apart : (way : Way) (n i j : ℕ) → i < 4 ^ n → j < 4 ^ n → targetPlace way n i ≡ targetPlace way n j → i ≡ j
 unfolding targetPlace codeAt
-target-apart toBlocks n i j a b e = sym (place-of-pixel n i a) ∙ ap (place n) e ∙ place-of-pixel n j b
+target-apart toBlockOrder n i j a b e = sym (place-of-pixel n i a) ∙ ap (place n) e ∙ place-of-pixel n j b
 target-apart toRows n i j a b e = e
 
-pub target-taken : (w : Way) (n c : ℕ) → c < 4 ^ n → (i : ℕ) × (i < 4 ^ n) × (targetPlace w n i ≡ c)
+pub target-taken : (way : Way) (n c : ℕ) → c < 4 ^ n → (i : ℕ) × (i < 4 ^ n) × (targetPlace way n i ≡ c)
 unfolding targetPlace codeAt
-target-taken toBlocks n c h = (place n c, place-in n c, code-of-place n c h)
+target-taken toBlockOrder n c h = (place n c, place-in n c, code-of-place n c h)
 target-taken toRows n c h = (c, h, refl)
 
 -- The pixel (x, y) stands at y times 2^n plus x in the rows, and at its location code in block order.

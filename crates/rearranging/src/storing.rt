@@ -5,7 +5,7 @@ ghost use mathlib.Core.Path.{_≡_};
 ghost use Prim.Native.Nat.{_*_, _^_};
 ghost use lib.ListN.{length};
 ghost use Rattle.sequences.specs.Over.{over};
-ghost use Rattle.rearranging.specs.Ways.{toBlocks, rearranged};
+ghost use Rattle.rearranging.specs.Ways.{toBlockOrder, rearranged};
 ghost use Rattle.rearranging.specs.Moving.{moved};
 ghost use Rattle.rearranging.specs.Promise.{Fits};
 ghost use Rattle.rearranging.specs.Rows.{RowFits};
@@ -13,7 +13,7 @@ ghost use Rattle.rearranging.specs.Rows.{RowFits};
 // The row y: each pixel is stored at its code.
 fn one_row(n: u32, table: &[u16; 256], raster: &[u16], y: usize, stored: &mut [u16])
     requires { ⌜ RowFits n (now table) y (length (now raster)) (length (now stored)) ⌝ }
-    ensures { λ _. ⌜ now (stored .exit) ≡ moved toBlocks n (now (raster .entry)) (y * 2 ^ n) (2 ^ n) (now (stored .entry)) ⌝ }
+    ensures { λ _. ⌜ now (stored .exit) ≡ moved toBlockOrder n (now (raster .entry)) (y * 2 ^ n) (2 ^ n) (now (stored .entry)) ⌝ }
 {
     let w = location::side(n);
     let start = y * w;
@@ -28,7 +28,7 @@ fn one_row(n: u32, table: &[u16; 256], raster: &[u16], y: usize, stored: &mut [u
 // All rows.
 pub(crate) fn all_rows(n: u32, raster: &[u16], stored: &mut [u16])
     requires { ⌜ Fits n (length (now raster)) (length (now stored)) ⌝ }
-    ensures { λ _. ⌜ now (stored .exit) ≡ over (rearranged toBlocks n (now (raster .entry))) (now (stored .entry)) ⌝ }
+    ensures { λ _. ⌜ now (stored .exit) ≡ over (rearranged toBlockOrder n (now (raster .entry))) (now (stored .entry)) ⌝ }
 {
     let w = location::side(n);
     let table = spreads();

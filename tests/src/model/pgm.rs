@@ -17,24 +17,31 @@ impl Read {
 
 /// What the bytes of a file are, wherever the samples go.
 pub fn read(bytes: &[u8]) -> Read {
-    let Some(Header { width, height, maxval, raster }) = header(bytes) else { return Read::refused(10) };
+    match samples(bytes) {
+        Err(number) => Read::refused(number),
+        Ok(Read { maxval, samples, .. }) if samples.iter().any(|&sample| u32::from(sample) > maxval) => {
+            Read::refused(14)
+        }
+        Ok(picture) => picture,
+    }
+}
+
+/// The samples of a file, above maxval or not, or the number of a refusal from 10 to 13.
+pub fn samples(bytes: &[u8]) -> Result<Read, u32> {
+    let Some(Header { width, height, maxval, raster }) = header(bytes) else { return Err(10) };
     if width != height || !(1..=256).contains(&width) || width.count_ones() != 1 {
-        return Read::refused(11);
+        return Err(11);
     }
     if maxval == 0 || maxval > 65_535 {
-        return Read::refused(12);
+        return Err(12);
     }
     let bytes_a_sample = if maxval > 255 { 2 } else { 1 };
     if raster.len() != bytes_a_sample * (width * height) as usize {
-        return Read::refused(13);
+        return Err(13);
     }
-    let value = |sample: &[u8]| sample.iter().fold(0, |value, &byte| 256 * value + u32::from(byte));
-    let samples: Vec<u32> = raster.chunks(bytes_a_sample).map(value).collect();
-    if samples.iter().any(|&sample| sample > maxval) {
-        return Read::refused(14);
-    }
-    let samples = samples.into_iter().map(|sample| sample as u16).collect();
-    Read { number: 0, n: width.trailing_zeros(), maxval, samples }
+    let value = |sample: &[u8]| sample.iter().fold(0, |value, &byte| 256 * value + u16::from(byte));
+    let samples = raster.chunks(bytes_a_sample).map(value).collect();
+    Ok(Read { number: 0, n: width.trailing_zeros(), maxval, samples })
 }
 
 /// What the bytes of a file are to a reader that is lent a raster of so many entries: 8 comes after all other numbers.

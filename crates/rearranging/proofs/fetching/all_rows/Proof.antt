@@ -3,12 +3,12 @@ use Prim.Native.Nat.{_-_}
 use native.Mathlib.Omega.{arith}
 use borrow.Author.Needs.{needs}
 use Rattle.rearranging.specs.Ways.{toRows}
-use Rattle.rearranging.specs.Rows.{width, InRows, rows-begun, rows-more, rows-done, rows-length, row-fits}
+use Rattle.rearranging.specs.Rows.{width, RowsMoved, rows-begun, rows-more, rows-done, rows-length, row-fits}
 use Rattle.rearranging.proofs.fetching.all_rows.Statement.{statement}
 use Rattle.rearranging.proofs.fetching.all_rows.Tie as tie
 
 abbrev Inv-loop : tie.InvT-loop
-Inv-loop n stored raster₀ w table y₀ raster y = InRows toRows n stored raster₀ raster y
+Inv-loop n stored raster₀ w table y₀ raster y = RowsMoved toRows n stored raster₀ raster y
 
 abbrev μ-loop : tie.MeasureT-loop
 μ-loop n stored raster₀ w table y₀ raster y = w - y

@@ -3,12 +3,12 @@ use Prim.Native.Nat.{_+_, _-_, _*_, _^_, _≤_, _<_}
 use native.Mathlib.Omega.{arith}
 use borrow.Author.Needs.{needs}
 use Rattle.rearranging.specs.Ways.{toRows}
-use Rattle.rearranging.specs.Rows.{width, few, column-byte, place-inside, code-inside, pixel-fetched, InRow, row-begun, row-more, row-done, row-length}
+use Rattle.rearranging.specs.Rows.{width, few, column-byte, place-inside, code-inside, pixel-fetched, RowMoved, row-begun, row-more, row-done, row-length}
 use Rattle.rearranging.proofs.fetching.one_row.Statement.{statement}
 use Rattle.rearranging.proofs.fetching.one_row.Tie as tie
 
 abbrev Inv-loop : tie.InvT-loop
-Inv-loop n table stored y raster₀ w start x₀ raster x = InRow toRows n stored y raster₀ raster x
+Inv-loop n table stored y raster₀ w start x₀ raster x = RowMoved toRows n stored y raster₀ raster x
 
 abbrev μ-loop : tie.MeasureT-loop
 μ-loop n table stored y raster₀ w start x₀ raster x = w - x

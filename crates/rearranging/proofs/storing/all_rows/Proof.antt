@@ -2,13 +2,13 @@
 use Prim.Native.Nat.{_-_}
 use native.Mathlib.Omega.{arith}
 use borrow.Author.Needs.{needs}
-use Rattle.rearranging.specs.Ways.{toBlocks}
-use Rattle.rearranging.specs.Rows.{width, InRows, rows-begun, rows-more, rows-done, rows-length, row-fits}
+use Rattle.rearranging.specs.Ways.{toBlockOrder}
+use Rattle.rearranging.specs.Rows.{width, RowsMoved, rows-begun, rows-more, rows-done, rows-length, row-fits}
 use Rattle.rearranging.proofs.storing.all_rows.Statement.{statement}
 use Rattle.rearranging.proofs.storing.all_rows.Tie as tie
 
 abbrev Inv-loop : tie.InvT-loop
-Inv-loop n raster stored₀ w table y₀ stored y = InRows toBlocks n raster stored₀ stored y
+Inv-loop n raster stored₀ w table y₀ stored y = RowsMoved toBlockOrder n raster stored₀ stored y
 
 abbrev μ-loop : tie.MeasureT-loop
 μ-loop n raster stored₀ w table y₀ stored y = w - y

@@ -2,13 +2,13 @@
 use Prim.Native.Nat.{_+_, _-_, _*_, _^_, _≤_, _<_}
 use native.Mathlib.Omega.{arith}
 use borrow.Author.Needs.{needs}
-use Rattle.rearranging.specs.Ways.{toBlocks}
-use Rattle.rearranging.specs.Rows.{width, few, column-byte, place-inside, code-inside, pixel-stored, InRow, row-begun, row-more, row-done, row-length}
+use Rattle.rearranging.specs.Ways.{toBlockOrder}
+use Rattle.rearranging.specs.Rows.{width, few, column-byte, place-inside, code-inside, pixel-stored, RowMoved, row-begun, row-more, row-done, row-length}
 use Rattle.rearranging.proofs.storing.one_row.Statement.{statement}
 use Rattle.rearranging.proofs.storing.one_row.Tie as tie
 
 abbrev Inv-loop : tie.InvT-loop
-Inv-loop n table raster y stored₀ w start x₀ stored x = InRow toBlocks n raster y stored₀ stored x
+Inv-loop n table raster y stored₀ w start x₀ stored x = RowMoved toBlockOrder n raster y stored₀ stored x
 
 abbrev μ-loop : tie.MeasureT-loop
 μ-loop n table raster y stored₀ w start x₀ stored x = w - x

@@ -2,9 +2,9 @@
 use native.Mathlib.Omega.{arith}
 use lib.ListN.{length-take}
 use borrow.Author.Needs.{needs}
-use Rattle.printing.specs.Callers.{count-within, whole-text-written}
-use Rattle.running.proofs.answer.Statement.{statement}
-use Rattle.running.proofs.answer.Tie as tie
+use Rattle.printing.specs.Callers.{count-within, whole-text-put}
+use Rattle.program.proofs.answer.Statement.{statement}
+use Rattle.program.proofs.answer.Tie as tie
 
 part : tie.Need-slice-aggregate-print
 part c = search needs
@@ -23,7 +23,7 @@ returns c =
     let called = c .before .before .before in
     let large = called .before .before .before .before .before .pre .1 in
     let p = called .print .ensures in (
-      whole-text-written p large,
+      whole-text-put p large,
       (count-within p, omega (arith, count-within p, length-take (called .print .result .count) (called .print .last .1 .1 .0))),
     )
 

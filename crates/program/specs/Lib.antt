@@ -1,2 +1,3 @@
 -- What the programs do.
 pub mod Ran
+pub mod SameText

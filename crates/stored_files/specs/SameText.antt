@@ -19,8 +19,8 @@ use Rattle.printing.specs.Printed.{inputLimit, inputNumber, imageOf, pictureTex
 use Rattle.printing.specs.Printable.{by-picture, accepted-says, refusal-text, accepted-text}
 use Rattle.printing.specs.Callers.{text-written}
 use Rattle.printing.specs.declared.order.Order.{Order}
-use Rattle.stored.specs.Files.{fileInRows}
-use Rattle.stored.specs.Putting.{put-into-rows, long-stands}
+use Rattle.stored_files.specs.Files.{fileInRows}
+use Rattle.stored_files.specs.Putting.{put-into-rows, long-stands}
 
 module _ (bytes : List ℕ) where
   -- A file refused with 10 to 13 or 15 is taken as it stands.
@@ -53,7 +53,7 @@ module _ (bytes : List ℕ) where
           let p = put-into-rows bytes (omega arith) in
           by-picture (fileInRows bytes) (omega (arith, p .length-same)) ∙ p .number-same ∙ sym (by-picture bytes (omega arith))
 
-  lines-in-rows : inputNumber bytes ≡ 0 → pictureText Order.Blocks bytes ≡ pictureText Order.Rows (fileInRows bytes)
+  lines-in-rows : inputNumber bytes ≡ 0 → pictureText Order.BlockOrder bytes ≡ pictureText Order.Rows (fileInRows bytes)
   unfolding pictureText imageOf
   lines-in-rows e =
       let a = accepted-says bytes e in
@@ -62,13 +62,13 @@ module _ (bytes : List ℕ) where
       ∙ ap (imageText (scan bytes .n)) (code-order-after-rows (scan bytes .n) (scan bytes .raster) (raster-is-square bytes (a .1))))
 
   -- "does what "outlines" does for a P5 file whose samples stand in block order" (document 02, e), for every file.
-  pub same-text : wholeText Order.Blocks bytes ≡ wholeText Order.Rows (fileInRows bytes)
+  pub same-text : wholeText Order.BlockOrder bytes ≡ wholeText Order.Rows (fileInRows bytes)
   same-text = pick (inputNumber bytes) refl
     where
-      pick : (k : ℕ) → inputNumber bytes ≡ k → wholeText Order.Blocks bytes ≡ wholeText Order.Rows (fileInRows bytes)
-      pick zero e = accepted-text bytes e Order.Blocks ∙ lines-in-rows e ∙ sym (accepted-text (fileInRows bytes) (same-number ∙ e) Order.Rows)
+      pick : (k : ℕ) → inputNumber bytes ≡ k → wholeText Order.BlockOrder bytes ≡ wholeText Order.Rows (fileInRows bytes)
+      pick zero e = accepted-text bytes e Order.BlockOrder ∙ lines-in-rows e ∙ sym (accepted-text (fileInRows bytes) (same-number ∙ e) Order.Rows)
       pick (suc k) e =
-          refusal-text bytes (omega arith) e Order.Blocks ∙ sym (refusal-text (fileInRows bytes) (omega arith) (same-number ∙ e) Order.Rows)
+          refusal-text bytes (omega arith) e Order.BlockOrder ∙ sym (refusal-text (fileInRows bytes) (omega arith) (same-number ∙ e) Order.Rows)
 
   -- The need is the same too, and so is what is written into a list of any length.
   same-need : textNeed bytes ≡ textNeed (fileInRows bytes)
@@ -87,18 +87,18 @@ module _ (bytes : List ℕ) where
   unfolding printNumber
   same-answer size = ap₂ (λ (k need : ℕ). first k (when (ltb size need) 8)) (sym same-number) same-need
 
-  same-printed : (size : ℕ) → printed Order.Blocks bytes size ≡ printed Order.Rows (fileInRows bytes) size
+  same-printed : (size : ℕ) → printed Order.BlockOrder bytes size ≡ printed Order.Rows (fileInRows bytes) size
   unfolding printed
   same-printed size = ap₂ (λ (need : ℕ) (l : List ℕ). ifRoom size need l) same-need same-text
 
 -- The same where a caller stands: a call for a file in block order, and one for that file with its samples put into rows, with text lists
 -- of one length. Both answer the same number and count, and wrote the same text.
-pub same-as-outlines : {bytes text bytes′ text′ other rows′ other′ : List ℕ} {w v : Written} → Printing Order.Blocks bytes text bytes′ text′ w
+pub same-as-outlines : {bytes text bytes′ text′ other rows′ other′ : List ℕ} {w v : Written} → Printing Order.BlockOrder bytes text bytes′ text′ w
     → Printing Order.Rows (fileInRows bytes) other rows′ other′ v → length text ≡ length other
     → (w .number ≡ v .number) × (w .count ≡ v .count) × (take (w .count) text′ ≡ take (v .count) other′)
 same-as-outlines {bytes} {text} {bytes′} {text′} {other} p q e =
-    let written : printed Order.Blocks bytes (length text) ≡ printed Order.Rows (fileInRows bytes) (length other) =
-    ap (printed Order.Blocks bytes) e ∙ same-printed bytes (length other) in (
+    let written : printed Order.BlockOrder bytes (length text) ≡ printed Order.Rows (fileInRows bytes) (length other) =
+    ap (printed Order.BlockOrder bytes) e ∙ same-printed bytes (length other) in (
       p .number-is ∙ ap (printNumber bytes) e ∙ same-answer bytes (length other) ∙ sym (q .number-is),
       p .count-is ∙ ap length written ∙ sym (q .count-is),
       text-written p ∙ written ∙ sym (text-written q),

@@ -3,18 +3,18 @@ use libc::STDERR_FILENO;
 use libc::STDIN_FILENO;
 use libc::STDOUT_FILENO;
 use printing::Order;
-ghost use mathlib.Core.Path.{_≡_};
 ghost use Prim.Native.Nat.{_≤_};
 ghost use lib.ListN.{length, take};
 ghost use Rattle.io.specs.Counts.{Counts};
+ghost use Rattle.answers.specs.Put.{Put};
 ghost use Rattle.printing.specs.Printed.{textRoom, wholeText};
-ghost use Rattle.running.specs.Ran.{Room, Ran};
+ghost use Rattle.program.specs.Ran.{Room, Ran};
 
-// The whole text for the bytes read, the front of a buffer that is longer than any input that is taken. It stands at the front of a list
-// that has room for any; the answer is its length.
+// The whole text for the bytes read, the front of a buffer. It is put at the front of a list that has room for any text; the answer is
+// its length.
 fn answer(buffer: &[u8], read: usize, order: Order, text: &mut [u8]) -> usize
     requires { ⌜ Counts read (now buffer) × (textRoom ≤ length (now text)) ⌝ }
-    ensures { λ r. ⌜ take r (now (text .exit)) ≡ wholeText order (take read (now (buffer .entry))) ⌝ }
+    ensures { λ r. ⌜ Put (wholeText order (take read (now (buffer .entry)))) (now (text .entry)) (now (text .exit)) r ⌝ }
     ensures { λ r. ⌜ Counts r (now (text .exit)) ⌝ }
 {
     let printed = printing::print(&buffer[..read], order, text);
@@ -25,7 +25,7 @@ fn answer(buffer: &[u8], read: usize, order: Order, text: &mut [u8]) -> usize
 // seen and not cut. A text that could not be written whole is told on standard error by the complaint.
 pub fn run(order: Order, complaint: &[u8], buffer: &mut [u8], text: &mut [u8])
     requires { ⌜ Room (now buffer) (now text) ⌝ }
-    ensures { λ _. ⌜ Ran order (now (buffer .exit)) (now (text .exit)) ⌝ }
+    ensures { λ _. ⌜ Ran order (now (buffer .exit)) (now (text .entry)) (now (text .exit)) ⌝ }
 {
     let read = io::read_full(STDIN_FILENO, buffer);
     let count = answer(buffer, read, order, text);

@@ -7,7 +7,6 @@ use native.Mathlib.Omega.{arith}
 use lib.ListN.{length, take, getD, length-append, length-take}
 use borrow.Author.Tests.{lt-ltb, le-ltb}
 use Rattle.sequences.specs.Ranges.{length-tabulate, tabulate-at, tabulate-same}
-use Rattle.interleaving.specs.Interleaving.{code-below}
 use Rattle.quadtree.specs.Raster.{place, inRows}
 use Rattle.quadtree.specs.Orders.{place-in, code-of-place, length-in-rows, in-rows-at}
 use Rattle.headers.specs.Parser.{Parsed, refused, got}
@@ -21,15 +20,11 @@ use Rattle.pgm.specs.ShapeLaws.{refused-11-to-13}
 use Rattle.pgm.specs.Scans.{shape-scan, facts, above-scan, held-scan}
 use Rattle.pgm.specs.Accepted.{file-scan, bad-scan}
 use Rattle.pgm.specs.declared.shape.Shape.{Shape}
-use Rattle.rearranging.specs.Ways.{codeAt}
+use Rattle.rearranging.specs.Ways.{codeAt, code-at-inside}
 use Rattle.printing.specs.Printed.{inputLimit}
-use Rattle.stored.specs.Files.{byteInRows, bytesInRows, shapeInRows, headerInRows, fileInRows}
+use Rattle.stored_files.specs.Files.{byteInRows, bytesInRows, inRowsByShape, inRowsByHeader, fileInRows}
 
 -- ---- the samples
-
-code-at-inside : (n i : ℕ) → codeAt n i < 4 ^ n
-unfolding codeAt
-code-at-inside n i = code-below n (i % 2 ^ n) (i / 2 ^ n)
 
 length-bytes : (n size : ℕ) (rest : List ℕ) → length (bytesInRows n size rest) ≡ size * 4 ^ n
 unfolding bytesInRows
@@ -58,7 +53,7 @@ sample-in-rows true n rest i h =
     ap₂ (λ (j k : ℕ). 256 * j + k) high low
 
 -- All of them.
-pub samples-in-rows : (wide : Bool) (n : ℕ) (rest : List ℕ) → samplesOf wide (4 ^ n) (bytesInRows n (sampleBytes wide) rest) ≡ inRows n (samplesOf wide (4 ^ n) rest)
+samples-in-rows : (wide : Bool) (n : ℕ) (rest : List ℕ) → samplesOf wide (4 ^ n) (bytesInRows n (sampleBytes wide) rest) ≡ inRows n (samplesOf wide (4 ^ n) rest)
 unfolding samplesOf inRows codeAt
 samples-in-rows wide n rest =
     tabulate-same (4 ^ n) (sampleAt wide (bytesInRows n (sampleBytes wide) rest)) (λ i. getD (samplesOf wide (4 ^ n) rest) (codeAt n i) 0)
@@ -168,13 +163,13 @@ module _ (bytes rest : List ℕ) (f : Fields) (x : File bytes f rest) {n count :
 
 -- Any file within the limit.
 module _ (bytes : List ℕ) where
-  by-shape : (rest : List ℕ) (f : Fields) → File bytes f rest → (s : Shape) → shaped f (length rest) ≡ s → PutIntoRows bytes (shapeInRows bytes rest s)
-  unfolding shapeInRows other
+  by-shape : (rest : List ℕ) (f : Fields) → File bytes f rest → (s : Shape) → shaped f (length rest) ≡ s → PutIntoRows bytes (inRowsByShape bytes rest s)
+  unfolding inRowsByShape other
   by-shape rest f x (Shape.Refused k) e = stands (omega (arith, refused-11-to-13 f (length rest) e .0)) (file-scan bytes rest f x ∙ shape-scan f rest e)
   by-shape rest f x (Shape.Samples n count wide) e = rearranged-file bytes rest f x e
 
-  by-header : (p : Parsed Fields) → header bytes ≡ p → PutIntoRows bytes (headerInRows bytes p)
-  unfolding headerInRows
+  by-header : (p : Parsed Fields) → header bytes ≡ p → PutIntoRows bytes (inRowsByHeader bytes p)
+  unfolding inRowsByHeader
   by-header (refused k) e = stands {k = 10} (omega arith) (bad-scan bytes (e ∙ ap refused (header-10 bytes k e)))
   by-header (got f rest) e = by-shape rest f (header-is-file bytes rest f e) (shaped f (length rest)) refl
 

@@ -1,7 +1,7 @@
 -- The lists are handed on, and the run is one for this order.
 use borrow.Author.Needs.{needs}
-use Rattle.outlines_stored.proofs.trace.Statement.{statement}
-use Rattle.outlines_stored.proofs.trace.Tie as tie
+use Rattle.outlines_stored.proofs.print_outlines.Statement.{statement}
+use Rattle.outlines_stored.proofs.print_outlines.Tie as tie
 
 complaint : tie.Need-slice-aggregate-run
 complaint c = search needs
@@ -18,5 +18,5 @@ same-length-2 c = search needs
 returns : tie.Need-returns
 returns c = c .before .before .before .before .run .ensures
 
-pub trace-spec : {M : Type 1} → statement M
-trace-spec = tie.close (tie.spec complaint run-requires same-length same-length-2 returns)
+pub print-outlines-spec : {M : Type 1} → statement M
+print-outlines-spec = tie.close (tie.spec complaint run-requires same-length same-length-2 returns)
