@@ -69,9 +69,10 @@ int main(void) {
     uint16_t rows[64], stored[64] = {0}, back[64] = {0};
     for (int i = 0; i < 64; i++)
         rows[i] = i;
+    const int first_row[8] = {0, 1, 4, 5, 16, 17, 20, 21}, first_column[8] = {0, 2, 8, 10, 32, 34, 40, 42};
     nettlestair_to_block_order(3, rows, 64, stored, 64);
     for (int i = 0; i < 64; i++)
-        expect("block order, a pixel at its code", stored[nettlestair_code(i % 8, i / 8)] == i);
+        expect("block order, a pixel at its code", stored[first_row[i % 8] + first_column[i / 8]] == i);
     nettlestair_from_block_order(3, stored, 64, back, 64);
     expect("block order, there and back", !memcmp(back, rows, sizeof rows));
 

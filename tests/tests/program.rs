@@ -345,9 +345,8 @@ fn stored_files_printed() {
         let text = stored.printed(&bytes);
         outlines.prints(&put_into_rows(&bytes), &text);
         let number = text.strip_prefix("refused ").map_or(0, |number| number.trim().parse().expect("a number"));
-        if bytes.len() <= 16_384 {
-            assert_eq!(text, lines::printed_stored(&bytes), "the model: {}", Shown(&bytes));
-        }
+        let expected = if bytes.len() <= 16_384 { lines::printed_stored(&bytes) } else { "refused 15\n".to_string() };
+        assert_eq!(text, expected, "the model: {}", Shown(&bytes));
         seen.insert(number);
         cases.ran();
     }

@@ -11,10 +11,10 @@ mod storing;
 fn fault(n: u32, source: usize, target: usize) -> u32
     ensures { λ r. ⌜ r ≡ rearrangeNumber n source target ⌝ }
 {
-    let whole = location::pixels(n);
     if 8 < n {
         return 1;
     }
+    let whole = location::pixels(n);
     if source != whole {
         return 9;
     }

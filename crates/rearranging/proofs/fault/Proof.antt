@@ -9,27 +9,29 @@ use Rattle.rearranging.proofs.fault.Statement.{statement}
 use Rattle.rearranging.proofs.fault.Tie as tie
 
 -- Where n is at most 8: the number of pixels.
-whole : (c : tie.Else1) → c .before .pixels .result ≡ 4 ^ c .before .before .args .n
-whole c = c .before .pixels .ensures ∙ pixels-are-power (c .before .before .args .n) (omega (arith, c .if1 .left))
-
-pixels-requires : tie.Need-pixels-requires
-pixels-requires c κs = search needs
+whole : (c : tie.After-pixels) → c .pixels .result ≡ 4 ^ c .before .before .args .n
+whole c = c .pixels .ensures ∙ pixels-are-power (c .before .before .args .n) (omega (arith, c .before .if1 .left))
 
 returns : tie.Need-returns
 returns c = sym (rearrange-large _ _ _ (c .if1 .taken))
 
+pixels-requires : tie.Need-pixels-requires
+pixels-requires c κs = search needs
+
 returns-2 : tie.Need-returns-2
-returns-2 c = sym (rearrange-unlike _ _ _ (c .before .if1 .left) (λ e. c .if2 .taken (e ∙ sym (whole (c .before)))))
+returns-2 c =
+    let counted = c .before in
+    sym (rearrange-unlike _ _ _ (counted .before .if1 .left) (λ e. c .if2 .taken (e ∙ sym (whole counted))))
 
 returns-3 : tie.Need-returns-3
 returns-3 c =
-    let low = c .before .before in
-    sym (rearrange-short _ _ _ (low .if1 .left) (c .before .if2 .left ∙ whole low) (omega (arith, c .if3 .taken, whole low)))
+    let counted = c .before .before in
+    sym (rearrange-short _ _ _ (counted .before .if1 .left) (c .before .if2 .left ∙ whole counted) (omega (arith, c .if3 .taken, whole counted)))
 
 returns-4 : tie.Need-returns-4
 returns-4 c =
-    let low = c .before .before in
-    sym (rearrange-accepted _ _ _ (low .if1 .left) (c .before .if2 .left ∙ whole low) (omega (arith, c .if3 .left, whole low)))
+    let counted = c .before .before in
+    sym (rearrange-accepted _ _ _ (counted .before .if1 .left) (c .before .if2 .left ∙ whole counted) (omega (arith, c .if3 .left, whole counted)))
 
 pub fault-spec : {M : Type 1} → statement M
-fault-spec = tie.close (tie.spec pixels-requires returns returns-2 returns-3 returns-4)
+fault-spec = tie.close (tie.spec returns pixels-requires returns-2 returns-3 returns-4)
