@@ -1,7 +1,7 @@
 # Sourced by bin/outlines and bin/outlines-stored: traces a binary PGM through the command's proved program, which is
 # built first where it is missing or older than its sources. The command sets its name (command), the crate of its
-# program (crate), how the samples of its pictures stand (order), a picture to try (example) and what takes larger ones,
-# if anything does (larger).
+# program (crate), how the samples of its pictures stand (order), a picture to try (example) and what it says of
+# larger ones, if anything (larger).
 # shellcheck shell=bash
 set -u
 : "${command:?}" "${crate:?}" "${order:?}" "${example:?}" "${larger?}"
@@ -93,7 +93,7 @@ words() { # NUMBER FILE
         echo "the raster is not exactly $width times $height samples of $size: it breaks off, or something follows it"
         ;;
     14) echo "a sample is above maxval, which is $maxval" ;;
-    15) echo "the input has more than $most bytes: pictures of up to 64 by 64 pixels fit${larger:+, and $larger take larger ones}" ;;
+    15) echo "the input has more than $most bytes: pictures of up to 64 by 64 pixels fit${larger:+; $larger}" ;;
     *) echo "the number is $1" ;;
     esac
 }

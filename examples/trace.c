@@ -1,6 +1,6 @@
-/* Traces a binary PGM of up to 256 by 256 pixels through the library and prints what the program `outlines` prints: one line
-   a region, the path data of its cycles joined; or `refused` and the number. The exit status is 0, 1 where the picture is
-   refused, and 2 where there is nothing to read.
+/* Traces a binary PGM of up to 256 by 256 pixels through the library and prints one line a cycle: its region, its area and its
+   path data; or `refused` and the number. The first cycle of a region is its outer one, with an area above zero; the area of a
+   hole is below zero. The exit status is 0, 1 where the picture is refused, and 2 where there is nothing to read.
 
        rt staticlib exports
        gcc -O2 -Iinclude -o target/trace examples/trace.c target/staticlib/libexports.a
@@ -16,6 +16,7 @@
 #define WHOLE 65536
 
 static uint32_t codes[WHOLE], labels[WHOLE], work[2 * WHOLE], owners[WHOLE], ends[WHOLE], corners[4 * WHOLE];
+static int32_t areas[WHOLE];
 static uint16_t raster[WHOLE], colours[WHOLE];
 static uint8_t levels[WHOLE], text[9 + 4 * 4 * WHOLE];
 
@@ -42,20 +43,17 @@ static int outlines(const uint8_t *bytes, size_t length) {
     size_t blocks = merged.count;
     struct nettlestair_traced traced =
         nettlestair_trace(n, codes, blocks, levels, blocks, colours, blocks, labels, WHOLE, work, 2 * WHOLE, owners, WHOLE,
-                          ends, WHOLE, corners, 4 * WHOLE);
+                          ends, WHOLE, corners, 4 * WHOLE, areas, WHOLE);
     if (traced.number != 0)
         return refused(traced.number);
 
-    /* cycle after cycle as path data; the cycles of a region stand one after the other */
+    /* a line for each cycle, in the order of the regions */
     for (uint32_t k = 0; k < traced.cycles; k++) {
-        if (k > 0 && owners[k] != owners[k - 1])
-            putchar('\n');
         struct nettlestair_stretch cycle = nettlestair_cycle(corners, 4 * WHOLE, ends, WHOLE, traced.cycles, k);
         /* never refused: an outline of a tracing has cycle form, and the text has room for it */
         struct nettlestair_written path = nettlestair_svg(corners + cycle.start, cycle.length, text, sizeof text);
-        fwrite(text, 1, path.count, stdout);
+        printf("%u %d %.*s\n", (unsigned)owners[k], (int)areas[k], (int)path.count, (const char *)text);
     }
-    putchar('\n');
     return 0;
 }
 

@@ -1,6 +1,6 @@
-//! Traces a binary PGM of up to 256 by 256 pixels through the library and prints what the program `outlines` prints: one line
-//! a region, the path data of its cycles joined; or `refused` and the number. The exit status is 0, 1 where the picture is
-//! refused, and 2 where there is nothing to read.
+//! Traces a binary PGM of up to 256 by 256 pixels through the library and prints one line a cycle: its region, its area and its
+//! path data; or `refused` and the number. The first cycle of a region is its outer one, with an area above zero; the area of a
+//! hole is below zero. The exit status is 0, 1 where the picture is refused, and 2 where there is nothing to read.
 //!
 //!     rt staticlib exports
 //!     rustc -O --edition 2021 -L target/staticlib -l static=exports -o target/trace examples/trace.rs
@@ -33,25 +33,34 @@ fn outlines(bytes: &[u8]) -> Result<Vec<u8>, u32> {
 
     // the outlines of its regions
     let (mut labels, mut work) = (vec![0; blocks], vec![0; 2 * whole]);
-    let (mut owners, mut ends, mut corners) = (vec![0; whole], vec![0; whole], vec![0; 4 * whole]);
-    let traced =
-        nettlestair::trace(n, codes, levels, colours, &mut labels, &mut work, &mut owners, &mut ends, &mut corners);
+    let (mut owners, mut ends, mut areas) = (vec![0; whole], vec![0; whole], vec![0; whole]);
+    let mut corners = vec![0; 4 * whole];
+    let traced = nettlestair::trace(
+        n,
+        codes,
+        levels,
+        colours,
+        &mut labels,
+        &mut work,
+        &mut owners,
+        &mut ends,
+        &mut corners,
+        &mut areas,
+    );
     accepted(traced.number)?;
 
-    // cycle after cycle as path data; the cycles of a region stand one after the other
+    // a line for each cycle, in the order of the regions
     let mut lines = Vec::new();
-    for k in 0..traced.cycles {
-        if k > 0 && owners[k as usize] != owners[k as usize - 1] {
-            lines.push(b'\n');
-        }
+    for (k, (owner, area)) in (0..traced.cycles).zip(owners.iter().zip(&areas)) {
+        lines.extend(format!("{owner} {area} ").bytes());
         let cycle = nettlestair::cycle(&corners, &ends, traced.cycles, k).of(&corners);
         let end = lines.len();
         lines.resize(end + 9 + 4 * cycle.len(), 0);
         let path = nettlestair::svg(cycle, &mut lines[end..]);
         accepted(path.number)?;
         lines.truncate(end + path.count as usize);
+        lines.push(b'\n');
     }
-    lines.push(b'\n');
     Ok(lines)
 }
 

@@ -96,13 +96,14 @@ struct nettlestair_numbered nettlestair_number(uint32_t n, const uint32_t *codes
                                                uint32_t *labels, size_t labels_len, uint32_t *work, size_t work_len);
 
 /* The outlines of all regions: 0, or 1 to 8. Labels and work list are as for nettlestair_number. For each cycle the owners hold
-   its region and the ends the index after its last corner; the corners, y times 512 plus x each, stand cycle after cycle. Owners
-   and ends have room for 4^n entries each, the corners for 4 times 4^n. */
+   its region, the ends the index after its last corner and the areas its signed area; the corners, y times 512 plus x each, stand
+   cycle after cycle. An area is the sum over the cycle's unit edges of x times the change of y: above zero for a region's first
+   cycle, below zero for its other ones. Owners, ends and areas have room for 4^n entries each, the corners for 4 times 4^n. */
 struct nettlestair_traced nettlestair_trace(uint32_t n, const uint32_t *codes, size_t codes_len, const uint8_t *levels,
                                             size_t levels_len, const uint16_t *colours, size_t colours_len,
                                             uint32_t *labels, size_t labels_len, uint32_t *work, size_t work_len,
                                             uint32_t *owners, size_t owners_len, uint32_t *ends, size_t ends_len,
-                                            uint32_t *corners, size_t corners_len);
+                                            uint32_t *corners, size_t corners_len, int32_t *areas, size_t areas_len);
 
 /* Where the corners of cycle k stand in a corner list, by an end list and a cycle count; {0, 0} where there are none. */
 struct nettlestair_stretch nettlestair_cycle(const uint32_t *corners, size_t corners_len, const uint32_t *ends,

@@ -165,6 +165,8 @@ extern "C" {
         ends_len: usize,
         corners: *mut u32,
         corners_len: usize,
+        areas: *mut i32,
+        areas_len: usize,
     ) -> Traced;
 
     fn nettlestair_cycle(
@@ -327,9 +329,10 @@ pub fn number(n: u32, codes: &[u32], levels: &[u8], colours: &[u16], labels: &mu
     }
 }
 
-/// The outlines of all regions: 0, or 1 to 8. Labels and work list are as for `number`. For each cycle the owners hold its region
-/// and the ends the index after its last corner; the corners, y times 512 plus x each, stand cycle after cycle. Owners and ends
-/// have room for 4^n entries each, the corners for 4 times 4^n.
+/// The outlines of all regions: 0, or 1 to 8. Labels and work list are as for `number`. For each cycle the owners hold its region,
+/// the ends the index after its last corner and the areas its signed area; the corners, y times 512 plus x each, stand cycle after
+/// cycle. An area is the sum over the cycle's unit edges of x times the change of y: above zero for a region's first cycle, below
+/// zero for its other ones. Owners, ends and areas have room for 4^n entries each, the corners for 4 times 4^n.
 #[allow(clippy::too_many_arguments)]
 pub fn trace(
     n: u32,
@@ -341,6 +344,7 @@ pub fn trace(
     owners: &mut [u32],
     ends: &mut [u32],
     corners: &mut [u32],
+    areas: &mut [i32],
 ) -> Traced {
     unsafe {
         nettlestair_trace(
@@ -361,6 +365,8 @@ pub fn trace(
             ends.len(),
             corners.as_mut_ptr(),
             corners.len(),
+            areas.as_mut_ptr(),
+            areas.len(),
         )
     }
 }

@@ -36,9 +36,20 @@ impl Dial {
         let (codes, levels, colours) = (&codes[..blocks], &levels[..blocks], &colours[..blocks]);
 
         let (mut labels, mut work) = (vec![0; blocks], vec![0; 2 * whole]);
-        let (mut owners, mut ends, mut corners) = (vec![0; whole], vec![0; whole], vec![0; 4 * whole]);
-        let traced =
-            library::trace(n, codes, levels, colours, &mut labels, &mut work, &mut owners, &mut ends, &mut corners);
+        let (mut owners, mut ends, mut areas) = (vec![0; whole], vec![0; whole], vec![0; whole]);
+        let mut corners = vec![0; 4 * whole];
+        let traced = library::trace(
+            n,
+            codes,
+            levels,
+            colours,
+            &mut labels,
+            &mut work,
+            &mut owners,
+            &mut ends,
+            &mut corners,
+            &mut areas,
+        );
         accepted(traced.number)?;
 
         let mut dial =

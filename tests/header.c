@@ -12,6 +12,15 @@ static void expect(const char *what, int holds) {
     }
 }
 
+/* Whether the entries of a list from i on are as memset(list, 99, sizeof list) left them. */
+#define LEFT(list, i) all_99((const uint8_t *)((list) + (i)), (const uint8_t *)(list) + sizeof(list))
+
+static int all_99(const uint8_t *from, const uint8_t *end) {
+    while (from < end && *from == 99)
+        from++;
+    return from == end;
+}
+
 int main(void) {
     /* figure 5(b), in colours of which the second differs from the first in the high byte alone */
     const uint16_t raster[16] = {1, 1, 1, 1, 1, 257, 1, 1, 1, 1, 65535, 65535, 1, 1, 65535, 65535};
@@ -112,19 +121,45 @@ int main(void) {
     const uint32_t regions[3] = {0, 1, 2}, after[3] = {10, 14, 18};
     const uint32_t points[18] = {0,    4,   1028, 1026, 514,  513,  1025, 1026, 2050, 2048,
                                  513, 514, 1026, 1025, 1026, 1028, 2052, 2050};
-    uint32_t owners[16], cycles[16], outlines[65];
-    memset(owners, 99, sizeof owners);
-    memset(outlines, 99, sizeof outlines);
+    const int32_t enclosed[3] = {11, 1, 4};
+    struct {
+        uint32_t labels[17], work[33], owners[16], ends[16], corners[65];
+        int32_t areas[17];
+    } lent, before_refusals;
+    memset(&lent, 99, sizeof lent);
     struct nettlestair_traced t =
-        nettlestair_trace(2, codes, 7, levels, 7, colours, 7, labels, 8, work, 33, owners, 16, cycles, 16, outlines, 65);
+        nettlestair_trace(2, codes, 7, levels, 7, colours, 7, lent.labels, 8, lent.work, 33, lent.owners, 16, lent.ends, 16,
+                          lent.corners, 65, lent.areas, 17);
     expect("outlines, answer", t.number == 0 && t.regions == 3 && t.cycles == 3 && t.corners == 18);
-    expect("outlines, labels", !memcmp(labels, numbers, sizeof numbers) && labels[7] == 0x63636363);
-    expect("outlines, work", !memcmp(work, zeros, sizeof zeros) && work[32] == 0x63636363);
-    expect("outlines, owners", !memcmp(owners, regions, sizeof regions) && owners[3] == 0x63636363);
-    expect("outlines, ends", !memcmp(cycles, after, sizeof after));
-    expect("outlines, corners", !memcmp(outlines, points, sizeof points) && outlines[18] == 0x63636363);
-    t = nettlestair_trace(2, codes, 7, levels, 7, colours, 7, labels, 8, work, 33, owners, 16, cycles, 16, outlines, 63);
-    expect("outlines, too short", t.number == 8 && t.regions == 0 && t.cycles == 0 && t.corners == 0);
+    expect("outlines, labels", !memcmp(lent.labels, numbers, sizeof numbers) && LEFT(lent.labels, 7));
+    expect("outlines, work", !memcmp(lent.work, zeros, sizeof zeros) && LEFT(lent.work, 32));
+    expect("outlines, owners", !memcmp(lent.owners, regions, sizeof regions) && LEFT(lent.owners, 3));
+    expect("outlines, ends", !memcmp(lent.ends, after, sizeof after) && LEFT(lent.ends, 3));
+    expect("outlines, corners", !memcmp(lent.corners, points, sizeof points) && LEFT(lent.corners, 18));
+    expect("outlines, areas", !memcmp(lent.areas, enclosed, sizeof enclosed) && LEFT(lent.areas, 3));
+
+    /* one block in place of the seven, refused: what was written for the seven stays */
+    before_refusals = lent;
+    t = nettlestair_trace(2, northwest, 1, whole, 1, ground, 1, lent.labels, 8, lent.work, 33, lent.owners, 16, lent.ends, 16,
+                          lent.corners, 63, lent.areas, 16);
+    expect("outlines, corners too short", t.number == 8 && t.regions == 0 && t.cycles == 0 && t.corners == 0);
+    t = nettlestair_trace(2, northwest, 1, whole, 1, ground, 1, lent.labels, 8, lent.work, 33, lent.owners, 16, lent.ends, 16,
+                          lent.corners, 64, lent.areas, 15);
+    expect("outlines, areas too short", t.number == 8 && t.regions == 0 && t.cycles == 0 && t.corners == 0);
+    expect("outlines, refusals", !memcmp(&lent, &before_refusals, sizeof lent));
+
+    /* figure 5(a): the area of the hole is below zero */
+    const uint32_t places[16] = {0, 1, 2, 3, 4, 5, 6, 7, 8, 9, 10, 11, 12, 13, 14, 15};
+    const uint8_t zero[16] = {0};
+    const uint16_t middle[16] = {1, 1, 1, 2, 1, 1, 2, 1, 1, 2, 1, 1, 2, 1, 1, 1};
+    const int32_t with_hole[3] = {16, -4, 4};
+    memset(&lent, 99, sizeof lent);
+    t = nettlestair_trace(2, places, 16, zero, 16, middle, 16, lent.labels, 17, lent.work, 33, lent.owners, 16, lent.ends, 16,
+                          lent.corners, 65, lent.areas, 17);
+    expect("outlines with a hole, answer", t.number == 0 && t.regions == 2 && t.cycles == 3 && t.corners == 12);
+    expect("outlines with a hole, areas", !memcmp(lent.areas, with_hole, sizeof with_hole));
+    expect("outlines with a hole, rest of the lists", LEFT(lent.labels, 16) && LEFT(lent.work, 32) && LEFT(lent.owners, 3) &&
+                                                          LEFT(lent.ends, 3) && LEFT(lent.corners, 12) && LEFT(lent.areas, 3));
 
     /* dial 1 */
     const uint32_t square[4] = {0, 1, 513, 512};

@@ -26,6 +26,7 @@ pub struct Lent<'a> {
     pub owners: &'a mut [u32],
     pub ends: &'a mut [u32],
     pub corners: &'a mut [u32],
+    pub areas: &'a mut [i32],
 }
 
 /// One way to rearrange a raster: n, the source and the target.
@@ -52,8 +53,8 @@ pub const LIBRARY: Side = Side {
     number: |n, blocks, labels, work| nettlestair::number(n, blocks.codes, blocks.levels, blocks.colours, labels, work),
     trace: |n, blocks, lent| {
         let Blocks { codes, levels, colours } = blocks;
-        let Lent { labels, work, owners, ends, corners } = lent;
-        nettlestair::trace(n, codes, levels, colours, labels, work, owners, ends, corners)
+        let Lent { labels, work, owners, ends, corners, areas } = lent;
+        nettlestair::trace(n, codes, levels, colours, labels, work, owners, ends, corners, areas)
     },
     blocks_from_raster: nettlestair::blocks_from_raster,
     raster_from_blocks: |n, blocks, raster| {
@@ -88,6 +89,7 @@ pub struct Lists {
     pub owners: Vec<u32>,
     pub ends: Vec<u32>,
     pub corners: Vec<u32>,
+    pub areas: Vec<i32>,
 }
 
 impl Lists {
@@ -95,14 +97,14 @@ impl Lists {
     /// left as it was.
     pub fn new(n: u32, blocks: usize) -> Lists {
         let whole = 1 << (2 * n);
-        let list =
-            |length: usize, seed: u32| (0..length as u32).map(|i| (i ^ seed).wrapping_mul(0x9E37_79B1)).collect();
+        let list = |length: usize, seed: u32| (0..length as u32).map(move |i| (i ^ seed).wrapping_mul(0x9E37_79B1));
         Lists {
-            labels: list(blocks, 1),
-            work: list(2 * whole, 2),
-            owners: list(whole, 3),
-            ends: list(whole, 4),
-            corners: list(4 * whole, 5),
+            labels: list(blocks, 1).collect(),
+            work: list(2 * whole, 2).collect(),
+            owners: list(whole, 3).collect(),
+            ends: list(whole, 4).collect(),
+            corners: list(4 * whole, 5).collect(),
+            areas: list(whole, 6).map(|entry| entry as i32).collect(),
         }
     }
 
@@ -113,6 +115,7 @@ impl Lists {
             owners: &mut self.owners,
             ends: &mut self.ends,
             corners: &mut self.corners,
+            areas: &mut self.areas,
         }
     }
 }

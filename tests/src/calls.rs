@@ -186,49 +186,63 @@ impl PictureOut {
     }
 }
 
-/// The names of the lists that numbering (the first two) and tracing (all five) are lent.
+/// The names of the unsigned lists that numbering (the first two) and tracing (all five) are lent.
 const NAMES: [&str; 5] = ["labels", "work", "owners", "ends", "corners"];
 
-/// A function over a block list, after a call: what it answered, and the lists of 32-bit numbers it was lent.
-pub struct Called<A, const LISTS: usize> {
+/// A function over a block list, after a call: what it answered, and the lists of 32-bit numbers it was lent. Those of areas, which
+/// have a sign, stand apart.
+pub struct Called<A, const LISTS: usize, const AREAS: usize> {
     pub answer: A,
     pub lists: [Lent<u32>; LISTS],
+    pub areas: [Lent<i32>; AREAS],
 }
 
 /// What such a function should answer and write. It writes nothing where it refuses.
-pub struct Expected<A, const LISTS: usize> {
+pub struct Expected<A, const LISTS: usize, const AREAS: usize> {
     pub answer: A,
-    pub written: [Vec<u32>; LISTS],
+    pub lists: [Vec<u32>; LISTS],
+    pub areas: [Vec<i32>; AREAS],
 }
 
-impl<A: Copy + PartialEq + Debug, const LISTS: usize> Called<A, LISTS> {
+impl<A: Copy + PartialEq + Debug, const LISTS: usize, const AREAS: usize> Called<A, LISTS, AREAS> {
     /// What differs: the answer or an entry, also one that should be as it was.
-    pub fn difference(&self, expected: &Expected<A, LISTS>) -> Option<String> {
-        answer(expected.answer, self.answer).or_else(|| {
-            let lists = self.lists.iter().zip(&expected.written).zip(NAMES);
-            lists.into_iter().find_map(|((list, written), name)| Some(format!("{name}, {}", list.difference(written)?)))
-        })
+    pub fn difference(&self, expected: &Expected<A, LISTS, AREAS>) -> Option<String> {
+        let mut lists = NAMES.iter().zip(&self.lists).zip(&expected.lists);
+        let mut areas = self.areas.iter().zip(&expected.areas);
+        answer(expected.answer, self.answer)
+            .or_else(|| {
+                lists.find_map(|((name, list), written)| Some(format!("{name}, {}", list.difference(written)?)))
+            })
+            .or_else(|| areas.find_map(|(list, written)| Some(format!("areas, {}", list.difference(written)?))))
     }
 }
 
+/// Numbering, after a call. It is lent no list of areas.
+pub type NumberOut = Called<Numbered, 2, 0>;
+
+/// Tracing, after a call. It is lent one list of areas.
+pub type TraceOut = Called<Traced, 5, 1>;
+
 /// Numbering, with a label list and a work list of the given lengths.
-pub fn number(random: &mut Random, n: u32, blocks: &Blocks, lengths: [usize; 2]) -> Called<Numbered, 2> {
+pub fn number(random: &mut Random, n: u32, blocks: &Blocks, lengths: [usize; 2]) -> NumberOut {
     let mut lists = lengths.map(|length| Lent::new(random, length));
     let [labels, work] = lists.each_mut().map(Lent::lend);
     let answer = handed_in(blocks, |Blocks { codes, levels, colours }| {
         nettlestair::number(n, codes, levels, colours, labels, work)
     });
-    Called { answer, lists }
+    NumberOut { answer, lists, areas: [] }
 }
 
-/// Tracing, with label, work, owner, end and corner lists of the given lengths.
-pub fn trace(random: &mut Random, n: u32, blocks: &Blocks, lengths: [usize; 5]) -> Called<Traced, 5> {
-    let mut lists = lengths.map(|length| Lent::new(random, length));
+/// Tracing, with label, work, owner, end, corner and area lists of the given lengths.
+pub fn trace(random: &mut Random, n: u32, blocks: &Blocks, lengths: [usize; 6]) -> TraceOut {
+    let [labels, work, owners, ends, corners, areas] = lengths;
+    let mut lists = [labels, work, owners, ends, corners].map(|length| Lent::new(random, length));
+    let mut areas = Lent::new(random, areas);
     let [labels, work, owners, ends, corners] = lists.each_mut().map(Lent::lend);
     let answer = handed_in(blocks, |Blocks { codes, levels, colours }| {
-        nettlestair::trace(n, codes, levels, colours, labels, work, owners, ends, corners)
+        nettlestair::trace(n, codes, levels, colours, labels, work, owners, ends, corners, areas.lend())
     });
-    Called { answer, lists }
+    TraceOut { answer, lists, areas: [areas] }
 }
 
 /// Hands a block list to a function, which leaves it as it was.

@@ -1,27 +1,29 @@
 //! What numbering and tracing should answer and write for a block list, by the model.
 
 use crate::calls::Expected;
+use crate::model::areas::areas;
 use crate::model::blocks::{number, paint, Blocks};
 use crate::model::outlines::Outlines;
 use crate::model::regions::Regions;
 use crate::nettlestair::{Numbered, Traced};
 use std::cell::OnceCell;
 
-/// The needs of the label, work, owner, end and corner lists. n above 8 is refused before any need, and gets those of one
+/// The needs of the label, work, owner, end, corner and area lists. n above 8 is refused before any need, and gets those of one
 /// pixel.
-pub fn needs(n: u32, blocks: usize) -> [usize; 5] {
+pub fn needs(n: u32, blocks: usize) -> [usize; 6] {
     let pixels = if n > 8 { 1 } else { 1 << (2 * n) };
-    [blocks, 2 * pixels, pixels, pixels, 4 * pixels]
+    [blocks, 2 * pixels, pixels, pixels, 4 * pixels, pixels]
 }
 
-/// A block list as the model sees it: its number by causes 1 to 7 and, where that is 0, its regions and
-/// their outlines.
+/// A block list as the model sees it: its number by causes 1 to 7 and, where that is 0, its regions, their outlines and the areas
+/// of these.
 pub struct Model {
     pub number: u32,
-    needs: [usize; 5],
+    needs: [usize; 6],
     labels: Vec<u32>,
     pub regions: Option<Regions>,
     outlines: OnceCell<Outlines>,
+    areas: OnceCell<Vec<i32>>,
 }
 
 impl Model {
@@ -29,23 +31,25 @@ impl Model {
         let number = number(n, &blocks.codes, &blocks.levels, &blocks.colours);
         let regions = (number == 0).then(|| Regions::of(n, &paint(n, blocks)));
         let labels = regions.as_ref().map(|r| r.labels(blocks)).unwrap_or_default();
-        Model { number, needs: needs(n, blocks.len()), labels, regions, outlines: OnceCell::new() }
+        let (outlines, areas) = (OnceCell::new(), OnceCell::new());
+        Model { number, needs: needs(n, blocks.len()), labels, regions, outlines, areas }
     }
 
     /// The answer of numbering with lists of these lengths: "1, 2, then per block in list order 3, 4, 5, then 6, 7, 8".
-    pub fn numbering(&self, lengths: [usize; 2]) -> Expected<Numbered, 2> {
+    pub fn numbering(&self, lengths: [usize; 2]) -> Expected<Numbered, 2, 0> {
         let number = self.number_with(&lengths);
         match &self.regions {
             Some(regions) if number == 0 => Expected {
                 answer: Numbered { number, regions: regions.count },
-                written: [self.labels.clone(), vec![0; self.needs[1]]],
+                lists: [self.labels.clone(), vec![0; self.needs[1]]],
+                areas: [],
             },
-            _ => Expected { answer: Numbered { number, regions: 0 }, written: [vec![], vec![]] },
+            _ => Expected { answer: Numbered { number, regions: 0 }, lists: [vec![], vec![]], areas: [] },
         }
     }
 
     /// The answer of tracing with lists of these lengths.
-    pub fn tracing(&self, lengths: [usize; 5]) -> Expected<Traced, 5> {
+    pub fn tracing(&self, lengths: [usize; 6]) -> Expected<Traced, 5, 1> {
         let number = self.number_with(&lengths);
         match &self.regions {
             Some(regions) if number == 0 => {
@@ -53,12 +57,14 @@ impl Model {
                 let counts = [regions.count, ends.len() as u32, corners.len() as u32];
                 Expected {
                     answer: Traced { number, regions: counts[0], cycles: counts[1], corners: counts[2] },
-                    written: [self.labels.clone(), vec![0; self.needs[1]], owners, ends, corners],
+                    lists: [self.labels.clone(), vec![0; self.needs[1]], owners, ends, corners],
+                    areas: [self.areas().to_vec()],
                 }
             }
             _ => Expected {
                 answer: Traced { number, regions: 0, cycles: 0, corners: 0 },
-                written: [const { Vec::new() }; 5],
+                lists: [const { Vec::new() }; 5],
+                areas: [vec![]],
             },
         }
     }
@@ -66,6 +72,11 @@ impl Model {
     /// The outlines of the regions; a refused list has none.
     pub fn outlines(&self) -> &Outlines {
         self.outlines.get_or_init(|| self.regions.as_ref().map(Outlines::of).unwrap_or_default())
+    }
+
+    /// The areas of the outlines.
+    fn areas(&self) -> &[i32] {
+        self.areas.get_or_init(|| areas(self.outlines()))
     }
 
     fn number_with(&self, lengths: &[usize]) -> u32 {

@@ -31,6 +31,12 @@ impl Entry for u32 {
     }
 }
 
+impl Entry for i32 {
+    fn garbage(random: &mut Random) -> i32 {
+        random.word() as i32
+    }
+}
+
 pub struct Lent<T> {
     before: Vec<T>,
     now: Vec<T>,

@@ -22,3 +22,4 @@ pub mod programs;
 pub mod random;
 pub mod rasters;
 pub mod svg;
+pub mod traced;

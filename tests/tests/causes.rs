@@ -12,7 +12,7 @@ use tests::random::Random;
 use tests::rasters;
 
 /// Holds the check, blocks to raster, numbering, tracing and the laying of one list over another to one number, with lists that are
-/// long enough and with shorter ones: 8 is looked for after 1 to 7.
+/// long enough and with shorter ones, for tracing also with the area list alone one too short: 8 is looked for after 1 to 7.
 fn judged(what: &str, random: &mut Random, n: u32, blocks: &Blocks, expected: u32) {
     let Blocks { codes, levels, colours } = blocks;
     assert_eq!(check(n, codes, levels, colours), expected, "{what}: check of n = {n}, {blocks}");
@@ -41,14 +41,16 @@ fn judged(what: &str, random: &mut Random, n: u32, blocks: &Blocks, expected: u3
     assert_eq!(model.number, expected, "{what}: the model of n = {n}, {blocks}");
     let [labels, work, ..] = needs(n, blocks.len());
     for lengths in [[labels, work], [labels, work - 1], [labels.max(1) - 1, work], [0, 0]] {
-        let called = numbering(random, n, blocks, lengths);
-        let difference = called.difference(&model.numbering(lengths));
+        let out = numbering(random, n, blocks, lengths);
+        let difference = out.difference(&model.numbering(lengths));
         agrees(format_args!("{what}: numbers with lists of {lengths:?} from n = {n}, {blocks}"), difference);
     }
     let need = needs(n, blocks.len());
-    for lengths in [need, need.map(|need| need.max(1) - 1), [0; 5]] {
-        let called = trace(random, n, blocks, lengths);
-        let difference = called.difference(&model.tracing(lengths));
+    let [labels, work, owners, ends, corners, areas] = need;
+    let areas_too_short = [labels, work, owners, ends, corners, areas - 1];
+    for lengths in [need, need.map(|need| need.max(1) - 1), areas_too_short, [0; 6]] {
+        let out = trace(random, n, blocks, lengths);
+        let difference = out.difference(&model.tracing(lengths));
         agrees(format_args!("{what}: outlines with lists of {lengths:?} from n = {n}, {blocks}"), difference);
     }
 }

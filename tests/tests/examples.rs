@@ -1,9 +1,10 @@
-//! The examples as a user builds and runs them: what they print for a picture by its name, against the separate tracer.
+//! The examples as a user builds and runs them: what they print for a picture by its name, against lines worked out by hand and
+//! against the separate tracer.
 
 use std::fs;
 use std::path::{Path, PathBuf};
 use tests::cases::Cases;
-use tests::model::lines::printed;
+use tests::model::lines::printed_with_areas;
 use tests::pictures::{of_both_widths, pgm};
 use tests::programs::{from_c, from_rust, run, samples, Ran};
 use tests::random::Random;
@@ -20,7 +21,7 @@ fn file(name: &str, bytes: &[u8]) -> PathBuf {
 
 /// An example prints the lines of a picture, or `refused` and the number, and its status says which.
 fn traces(program: &Path, name: &Path, bytes: &[u8]) {
-    let out = printed(bytes);
+    let out = printed_with_areas(bytes);
     let status = Some(i32::from(out.starts_with("refused ")));
     assert_eq!(
         run(program, &[name]),
@@ -31,10 +32,26 @@ fn traces(program: &Path, name: &Path, bytes: &[u8]) {
     );
 }
 
-/// An example does its job: on the samples, on pictures of 256 by 256, on faulty files, without a file and without a word.
+/// What is printed for document 01's dials 1 to 5, worked out by hand: region, area and path data of each cycle.
+const DIALS: [&str; 5] = [
+    "0 1 M0 0H1V1H0Z\n",
+    "0 11 M0 0H4V2H2V1H1V2H2V4H0Z\n1 1 M1 1H2V2H1Z\n2 4 M2 2H4V4H2Z\n",
+    "0 16 M0 0H4V4H0Z\n0 -4 M1 3H3V1H1Z\n1 4 M1 1H3V3H1Z\n",
+    "0 1 M0 0H1V1H0Z\n1 1 M1 0H2V1H1Z\n2 1 M0 1H1V2H0Z\n3 1 M1 1H2V2H1Z\n",
+    "0 2 M0 0H2V1H0Z\n1 2 M0 1H2V2H0Z\n",
+];
+
+/// An example does its job: on the dials, on all samples, on pictures of 256 by 256, on faulty files, without a file and without a
+/// word.
 fn does_its_job(program: &Path, test: &'static str) {
     let mut cases = Cases::of(test);
     let mut random = Random::of(test);
+    for (dial, text) in (1..).zip(DIALS) {
+        let name = format!("samples/dial-{dial}.pgm");
+        let ran = run(program, &[&name]);
+        assert_eq!(ran, Ran { status: Some(0), out: text.to_string(), err: String::new() }, "{test}: {name}");
+        cases.ran();
+    }
     for (name, bytes) in samples() {
         traces(program, &name, &bytes);
         cases.ran();

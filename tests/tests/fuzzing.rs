@@ -3,12 +3,12 @@
 
 use std::collections::BTreeSet;
 use std::time::{Duration, Instant};
-use tests::calls::{self, Called, Out, PictureOut, Way, FROM_BLOCK_ORDER, TO_BLOCK_ORDER};
+use tests::calls::{self, Out, PictureOut, Way, FROM_BLOCK_ORDER, TO_BLOCK_ORDER};
 use tests::cases::Cases;
 use tests::compare::Shown;
 use tests::expected::{needs, Model};
 use tests::faults;
-use tests::lent::Entry;
+use tests::lent::{Entry, GUARD};
 use tests::model::blocks::{location_code, number, paint, quadtree, Blocks};
 use tests::model::orders::{raster_number, rearranged};
 use tests::model::overlay::overlay as overlaid;
@@ -224,19 +224,26 @@ fn numbering(random: &mut Random, wrong: u32) -> (u32, Option<String>) {
     let [labels, work, ..] = needs(n, blocks.len());
     let lengths = [labels, work].map(|need| length(random, need));
     let expected = Model::of(n, &blocks).numbering(lengths);
-    let Called { mut answer, lists } = calls::number(random, n, &blocks, lengths);
-    answer.regions += wrong;
-    let difference = Called { answer, lists }.difference(&expected);
+    let mut out = calls::number(random, n, &blocks, lengths);
+    out.answer.regions += wrong;
+    let difference = out.difference(&expected);
     (expected.answer.number, difference.map(|d| format!("n = {n}, {blocks}, lengths {lengths:?}: {d}")))
 }
 
+/// Where `wrong` is 1 and there are cycles, either their count is changed or one of their areas.
 fn tracing(random: &mut Random, wrong: u32) -> (u32, Option<String>) {
     let (n, blocks) = block_list(random);
     let lengths = needs(n, blocks.len()).map(|need| length(random, need));
     let expected = Model::of(n, &blocks).tracing(lengths);
-    let Called { mut answer, lists } = calls::trace(random, n, &blocks, lengths);
-    answer.cycles += wrong;
-    let difference = Called { answer, lists }.difference(&expected);
+    let mut out = calls::trace(random, n, &blocks, lengths);
+    let cycles = expected.answer.cycles as usize;
+    if wrong == 1 && cycles > 0 && random.below(2) == 0 {
+        let place = GUARD + random.below(cycles);
+        out.areas[0].damage(random, place);
+    } else {
+        out.answer.cycles += wrong;
+    }
+    let difference = out.difference(&expected);
     (expected.answer.number, difference.map(|d| format!("n = {n}, {blocks}, lengths {lengths:?}: {d}")))
 }
 

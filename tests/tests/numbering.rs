@@ -1,6 +1,6 @@
 //! Region numbers against a flood fill: dials, figures, structured and random rasters, and what becomes of the lent lists.
 
-use tests::calls::{agrees, number, Called};
+use tests::calls::{agrees, number, NumberOut};
 use tests::cases::Cases;
 use tests::compare::Shown;
 use tests::damage::each_place;
@@ -12,14 +12,14 @@ use tests::random::Random;
 use tests::rasters;
 
 /// Numbering of a raster's blocks with lists that are longer than needed by `more`.
-fn numbered(random: &mut Random, n: u32, raster: &[u16], more: [usize; 2]) -> (Blocks, Called<Numbered, 2>) {
+fn numbered(random: &mut Random, n: u32, raster: &[u16], more: [usize; 2]) -> (Blocks, NumberOut) {
     let blocks = quadtree(n, raster);
     let [labels, work, ..] = needs(n, blocks.len());
     let lengths = [labels + more[0], work + more[1]];
-    let called = number(random, n, &blocks, lengths);
-    let difference = called.difference(&Model::of(n, &blocks).numbering(lengths));
+    let out = number(random, n, &blocks, lengths);
+    let difference = out.difference(&Model::of(n, &blocks).numbering(lengths));
     agrees(format_args!("n = {n}, lists longer by {more:?}, raster {}", Shown(raster)), difference);
-    (blocks, called)
+    (blocks, out)
 }
 
 /// The dials whose numbers document 01 gives or settles.
@@ -36,9 +36,9 @@ fn dials() {
         ("12", 8, &[7; 65536], &[0], 1),
     ];
     for (dial, n, raster, labels, regions) in rows {
-        let (_, mut called) = numbered(&mut random, n, raster, [0, 0]);
-        assert_eq!(called.lists[0].lend(), labels, "dial {dial}");
-        assert_eq!(called.answer, Numbered { number: 0, regions }, "dial {dial}");
+        let (_, mut out) = numbered(&mut random, n, raster, [0, 0]);
+        assert_eq!(out.lists[0].lend(), labels, "dial {dial}");
+        assert_eq!(out.answer, Numbered { number: 0, regions }, "dial {dial}");
         cases.ran();
     }
     cases.end();
@@ -49,9 +49,9 @@ fn figures_of_the_papers() {
     let mut cases = Cases::of("numbers of figures");
     let mut random = Random::of("numbers of figures");
     for (figure, n, raster) in figures::all() {
-        let (_, called) = numbered(&mut random, n, &raster, [3, 5]);
+        let (_, out) = numbered(&mut random, n, &raster, [3, 5]);
         let regions = if figure == "000, figure 5(b)" { 3 } else { 2 };
-        assert_eq!(called.answer, Numbered { number: 0, regions }, "{figure}");
+        assert_eq!(out.answer, Numbered { number: 0, regions }, "{figure}");
         cases.ran();
     }
     cases.end();
@@ -106,9 +106,9 @@ fn lengths() {
                 [0, 0],
             ];
             for (i, lengths) in lengths.into_iter().enumerate() {
-                let called = number(&mut random, n, &blocks, lengths);
-                assert_eq!(called.answer.number, if i < 4 { 0 } else { 8 }, "n = {n}, {kind}, lengths {lengths:?}");
-                let difference = called.difference(&model.numbering(lengths));
+                let out = number(&mut random, n, &blocks, lengths);
+                assert_eq!(out.answer.number, if i < 4 { 0 } else { 8 }, "n = {n}, {kind}, lengths {lengths:?}");
+                let difference = out.difference(&model.numbering(lengths));
                 agrees(format_args!("n = {n}, {kind}, lengths {lengths:?}"), difference);
                 cases.ran();
             }
@@ -129,17 +129,17 @@ fn damage_is_seen() {
             let [labels, work, ..] = needs(n, blocks.len());
             for lengths in [[labels + 2, work + 2], [labels, work - 1]] {
                 let expected = Model::of(n, &blocks).numbering(lengths);
-                let mut called = number(&mut random, n, &blocks, lengths);
+                let mut out = number(&mut random, n, &blocks, lengths);
                 for list in 0..2 {
-                    let written = &expected.written[list];
-                    let damaged = |c: &Called<Numbered, 2>| c.difference(&expected);
-                    each_place(&mut random, &mut cases, &mut called, |c| &mut c.lists[list], written, damaged);
+                    let damaged = |out: &NumberOut| out.difference(&expected);
+                    let written = &expected.lists[list];
+                    each_place(&mut random, &mut cases, &mut out, |out| &mut out.lists[list], written, damaged);
                 }
-                called.answer.regions += 1;
-                assert!(called.difference(&expected).is_some(), "another count of regions");
-                called.answer.regions -= 1;
-                called.answer.number += 1;
-                assert!(called.difference(&expected).is_some(), "another number");
+                out.answer.regions += 1;
+                assert!(out.difference(&expected).is_some(), "another count of regions");
+                out.answer.regions -= 1;
+                out.answer.number += 1;
+                assert!(out.difference(&expected).is_some(), "another number");
             }
         }
     }

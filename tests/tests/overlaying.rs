@@ -1,15 +1,16 @@
 //! One block list laid over another, against the model: every pair of small images, random pairs of every side, and what the other
 //! functions say of the result.
 
-use tests::calls::{agrees, number, overlay, raster_from_blocks, trace};
+use tests::calls::{agrees, number, overlay, raster_from_blocks};
 use tests::cases::Cases;
 use tests::compare::Shown;
-use tests::expected::{needs, Model};
+use tests::expected::needs;
 use tests::model::blocks::{quadtree, Blocks};
 use tests::model::overlay::{larger, overlay as overlaid};
 use tests::nettlestair::check;
 use tests::random::Random;
 use tests::rasters;
+use tests::traced::traced;
 
 /// Lays the blocks of one raster over those of another, with lists that are longer than needed by `more`, and holds the result to the
 /// model. The check accepts it, and its raster has the larger colour at each pixel.
@@ -28,14 +29,11 @@ fn laid_over(random: &mut Random, n: u32, first: &[u16], second: &[u16], more: [
 }
 
 /// Holds the region numbers and the outlines of a block list to the model.
-fn outlined(random: &mut Random, n: u32, blocks: &Blocks) {
-    let model = Model::of(n, blocks);
-    let lengths = needs(n, blocks.len());
-    let [labels, work, ..] = lengths;
-    let numbered = number(random, n, blocks, [labels, work]);
-    agrees(format_args!("numbers of n = {n}, {blocks}"), numbered.difference(&model.numbering([labels, work])));
-    let traced = trace(random, n, blocks, lengths);
-    agrees(format_args!("outlines of n = {n}, {blocks}"), traced.difference(&model.tracing(lengths)));
+fn numbered_and_traced(random: &mut Random, n: u32, blocks: &Blocks) {
+    let (_, model) = traced(random, n, blocks, [0; 6]);
+    let [labels, work, ..] = needs(n, blocks.len());
+    let out = number(random, n, blocks, [labels, work]);
+    agrees(format_args!("numbers of n = {n}, {blocks}"), out.difference(&model.numbering([labels, work])));
 }
 
 #[test]
@@ -47,7 +45,7 @@ fn pairs_of_pixels() {
     for &a in &colours {
         for &b in &colours {
             let blocks = laid_over(&mut random, 0, &[a], &[b], [0, 1, 2]);
-            outlined(&mut random, 0, &blocks);
+            numbered_and_traced(&mut random, 0, &blocks);
             cases.ran();
         }
     }
@@ -64,7 +62,7 @@ fn pairs_of_small_images() {
         for first in &images {
             for second in &images {
                 let blocks = laid_over(&mut random, 1, first, second, [2, 0, 1]);
-                outlined(&mut random, 1, &blocks);
+                numbered_and_traced(&mut random, 1, &blocks);
                 cases.ran();
             }
         }
@@ -98,7 +96,7 @@ fn images_of_all_kinds() {
             let shift = if n < 4 { round } else { random.below(seconds.len()) };
             for (first, second) in firsts.iter().zip(seconds.iter().cycle().skip(shift)) {
                 let blocks = laid_over(&mut random, n, first, second, [round, 2 * round, 3 * round]);
-                outlined(&mut random, n, &blocks);
+                numbered_and_traced(&mut random, n, &blocks);
                 cases.ran();
             }
         }

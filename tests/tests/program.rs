@@ -164,7 +164,7 @@ fn files() {
         }
     }
     // Larger pictures are taken elsewhere where their samples stand row by row, and only there.
-    let ends = ["fit, and bin/picture and examples/trace.rs take larger ones\n", "fit\n"];
+    let ends = ["fit; bin/picture draws larger ones, examples/trace.rs prints their outlines with areas\n", "fit\n"];
     for (program, end) in PROGRAMS.iter().zip(ends) {
         let ran = run(program.command(), &["samples/clock-256.pgm"]);
         assert!(ran.err.ends_with(end), "{}: {}", program.name, ran.err);

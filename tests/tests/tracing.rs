@@ -1,7 +1,7 @@
 //! The outlines of all regions against a separate tracer: dials, figures, structured and random rasters, and what becomes of
 //! the lent lists. Each listed outline is taken by its stretch and written as path data; the chain of its unit steps gives it again.
 
-use tests::calls::{agrees, trace, Called, Out};
+use tests::calls::{agrees, trace, Out, TraceOut};
 use tests::cases::Cases;
 use tests::compare::Shown;
 use tests::damage::each_place;
@@ -13,6 +13,7 @@ use tests::model::paths::{chain, corner, is_cycle_form, svg, Point};
 use tests::nettlestair::{self, Stretch, Traced};
 use tests::random::Random;
 use tests::rasters;
+use tests::traced::traced;
 
 /// The outlines of a raster as the library lists them.
 struct Outlines {
@@ -33,15 +34,8 @@ impl Outlines {
 }
 
 /// Traces a raster's blocks with lists that are longer than needed by `more`, and takes each outline by its stretch.
-fn traced(random: &mut Random, n: u32, raster: &[u16], more: [usize; 5]) -> Outlines {
-    let blocks = quadtree(n, raster);
-    let mut lengths = needs(n, blocks.len());
-    lengths.iter_mut().zip(more).for_each(|(length, more)| *length += more);
-    let model = Model::of(n, &blocks);
-    let called = trace(random, n, &blocks, lengths);
-    let difference = called.difference(&model.tracing(lengths));
-    agrees(format_args!("n = {n}, lists longer by {more:?}, raster {}", Shown(raster)), difference);
-    let Called { answer, mut lists } = called;
+fn outlined(random: &mut Random, n: u32, raster: &[u16], more: [usize; 6]) -> Outlines {
+    let (TraceOut { answer, mut lists, .. }, model) = traced(random, n, &quadtree(n, raster), more);
     let [_, _, owners, ends, corners] = lists.each_mut().map(Lent::lend);
     let cycles = (0..answer.cycles).map(|k| {
         let Stretch { start, length } = nettlestair::cycle(corners, ends, answer.cycles, k);
@@ -78,20 +72,20 @@ fn dials() {
         ("12", 8, &[7; 65536], &["M0 0H256V256H0Z"]),
     ];
     for (dial, n, raster, lines) in rows {
-        let outlines = traced(&mut random, n, raster, [0; 5]);
+        let outlines = outlined(&mut random, n, raster, [0; 6]);
         assert_eq!(outlines.lines(), lines, "dial {dial}");
         outlines.cycles.iter().for_each(|cycle| written(&mut random, cycle));
         cases.ran();
     }
     // the string of dial 1, read from (0,0)
-    let outlines = traced(&mut random, 0, &[9], [0; 5]);
+    let outlines = outlined(&mut random, 0, &[9], [0; 6]);
     let read = Out::of(&mut random, 4, |list| nettlestair::read_chain(0, b"0321", list));
     agrees("the string of dial 1", read.difference(&outlines.cycles[0]));
     cases.ran();
     cases.end();
 }
 
-/// Dials 6 to 11 and n = 9: the refusals leave all five lists.
+/// Dials 6 to 11 and n = 9: the refusals leave all six lists.
 #[test]
 fn refused_dials() {
     let mut cases = Cases::of("outlines of refused dials");
@@ -109,10 +103,10 @@ fn refused_dials() {
     for (dial, n, list, number) in rows {
         let mut blocks = Blocks::default();
         list.iter().for_each(|&(code, level, colour)| blocks.push(code, level, colour));
-        for lengths in [needs(n, blocks.len()), [0; 5]] {
-            let called = trace(&mut random, n, &blocks, lengths);
-            assert_eq!(called.answer, Traced { number, regions: 0, cycles: 0, corners: 0 }, "dial {dial}");
-            let difference = called.difference(&Model::of(n, &blocks).tracing(lengths));
+        for lengths in [needs(n, blocks.len()), [0; 6]] {
+            let out = trace(&mut random, n, &blocks, lengths);
+            assert_eq!(out.answer, Traced { number, regions: 0, cycles: 0, corners: 0 }, "dial {dial}");
+            let difference = out.difference(&Model::of(n, &blocks).tracing(lengths));
             agrees(format_args!("dial {dial}, lengths {lengths:?}"), difference);
             cases.ran();
         }
@@ -131,7 +125,7 @@ fn figures_of_the_papers() {
         &[&figures::FIGURE_5B_A],
     ];
     for ((figure, n, raster), printed) in figures::all().into_iter().zip(printed) {
-        let outlines = traced(&mut random, n, &raster, [2; 5]);
+        let outlines = outlined(&mut random, n, &raster, [2; 6]);
         assert!(printed.len() <= outlines.cycles.len(), "{figure}");
         for (cycle, printed) in outlines.cycles.iter().zip(printed) {
             assert_eq!(*cycle, from_corner(printed, cycle[0]), "{figure}");
@@ -139,7 +133,7 @@ fn figures_of_the_papers() {
         }
     }
     let (figure, n, raster) = figures::all().pop().expect("001's figure 1(a) is the last");
-    let outlines = traced(&mut random, n, &raster, [2; 5]);
+    let outlines = outlined(&mut random, n, &raster, [2; 6]);
     let region = outlines.owners.iter().position(|&owner| owner == 1).expect("the figure is region 1 of its array");
     let cycle = &outlines.cycles[region];
     let (x, y) = figures::TABLE_I_START;
@@ -158,7 +152,7 @@ fn structured_and_random_rasters() {
     for n in 0..=8 {
         for round in 0..[20, 20, 20, 20, 10, 5, 2, 1, 1][n as usize] {
             for (_, raster) in rasters::structured(&mut random, n) {
-                let outlines = traced(&mut random, n, &raster, [0, 1, 2, 3, 4].map(|list| list * round));
+                let outlines = outlined(&mut random, n, &raster, [0, 1, 2, 3, 4, 5].map(|list| list * round));
                 outlines.cycles.iter().for_each(|cycle| written(&mut random, cycle));
                 most = most.max(outlines.cycles.len());
                 cases.ran();
@@ -174,39 +168,41 @@ fn small_rasters() {
     let mut cases = Cases::of("outlines of small rasters");
     let mut random = Random::of("outlines of small rasters");
     for (n, raster) in rasters::small() {
-        traced(&mut random, n, &raster, if n == 1 { [0, 1, 0, 1, 0] } else { [1, 0, 1, 0, 1] });
+        outlined(&mut random, n, &raster, if n == 1 { [0, 1, 0, 1, 0, 1] } else { [1, 0, 1, 0, 1, 0] });
         cases.ran();
     }
     cases.end();
 }
 
-/// A list one too short, or empty, is 8 and all five stay; longer lists keep their tails. The needs are fixed by n and the number
-/// of blocks, whatever the answer uses.
+/// A list one too short, of half the need, or empty, is 8 and all six stay; longer lists keep their tails. The needs are fixed by n
+/// and the number of blocks, whatever the answer uses.
 #[test]
 fn lengths() {
     let mut cases = Cases::of("lengths for tracing");
     let mut random = Random::of("lengths for tracing");
     for n in 0..=8 {
-        for (kind, raster) in rasters::structured(&mut random, n) {
+        let one_block = ("one block", vec![7; 1 << (2 * n)]);
+        for (kind, raster) in rasters::structured(&mut random, n).into_iter().chain([one_block]) {
             let blocks = quadtree(n, &raster);
             let model = Model::of(n, &blocks);
             let need = needs(n, blocks.len());
-            let mut rows = vec![(need, 0), (need.map(|need| 2 * need + 7), 0), ([0; 5], 8)];
-            for list in 0..5 {
+            let mut rows = vec![(need, 0), (need.map(|need| 2 * need + 7), 0), ([0; 6], 8)];
+            for list in 0..6 {
                 let with = |length: usize| {
                     let mut lengths = need;
                     lengths[list] = length;
                     lengths
                 };
                 rows.push((with(need[list] - 1), 8));
-                if n < 7 {
-                    rows.extend([(with(0), 8), (with(need[list] + 1), 0)]);
+                if n < 7 || kind == "one block" {
+                    rows.extend([(with(0), 8), (with(need[list] / 2), 8)]);
+                    rows.extend([(with(need[list] + 1), 0), (with(3 * need[list]), 0)]);
                 }
             }
             for (lengths, number) in rows {
-                let called = trace(&mut random, n, &blocks, lengths);
-                assert_eq!(called.answer.number, number, "n = {n}, {kind}, lengths {lengths:?}");
-                let difference = called.difference(&model.tracing(lengths));
+                let out = trace(&mut random, n, &blocks, lengths);
+                assert_eq!(out.answer.number, number, "n = {n}, {kind}, lengths {lengths:?}");
+                let difference = out.difference(&model.tracing(lengths));
                 agrees(format_args!("n = {n}, {kind}, lengths {lengths:?}"), difference);
                 cases.ran();
             }
@@ -227,21 +223,22 @@ fn damage_is_seen() {
             let need = needs(n, blocks.len());
             for lengths in [need.map(|need| need + 2), need.map(|need| need - 1)] {
                 let expected = Model::of(n, &blocks).tracing(lengths);
-                let mut called = trace(&mut random, n, &blocks, lengths);
+                let mut out = trace(&mut random, n, &blocks, lengths);
+                let damaged = |out: &TraceOut| out.difference(&expected);
                 for list in 0..5 {
-                    let written = &expected.written[list];
-                    let damaged = |c: &Called<Traced, 5>| c.difference(&expected);
-                    each_place(&mut random, &mut cases, &mut called, |c| &mut c.lists[list], written, damaged);
+                    let written = &expected.lists[list];
+                    each_place(&mut random, &mut cases, &mut out, |out| &mut out.lists[list], written, damaged);
                 }
-                let right = called.answer;
+                each_place(&mut random, &mut cases, &mut out, |out| &mut out.areas[0], &expected.areas[0], damaged);
+                let right = out.answer;
                 for wrong in [
                     Traced { number: right.number + 1, ..right },
                     Traced { regions: right.regions + 1, ..right },
                     Traced { cycles: right.cycles + 1, ..right },
                     Traced { corners: right.corners + 1, ..right },
                 ] {
-                    called.answer = wrong;
-                    assert!(called.difference(&expected).is_some(), "{wrong:?} for {right:?}");
+                    out.answer = wrong;
+                    assert!(out.difference(&expected).is_some(), "{wrong:?} for {right:?}");
                 }
             }
         }

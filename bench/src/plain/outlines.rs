@@ -21,13 +21,14 @@ pub fn trace(n: u32, blocks: Blocks, lent: Lent) -> Traced {
     if fault != 0 {
         return Traced::refused(fault);
     }
-    let Lent { labels, work, owners, ends, corners } = lent;
+    let Lent { labels, work, owners, ends, corners, areas } = lent;
     let (whole, count) = (1usize << (2 * n), blocks.codes.len());
     if labels.len() < count
         || work.len() < 2 * whole
         || owners.len() < whole
         || ends.len() < whole
         || corners.len() < 4 * whole
+        || areas.len() < whole
     {
         return Traced::refused(8);
     }
@@ -41,7 +42,7 @@ pub fn trace(n: u32, blocks: Blocks, lent: Lent) -> Traced {
     let links = &mut links[..count];
     link(labels, links, &mut owners[..regions as usize]);
 
-    let (cycles, corners) = list(&mut Map { n, cells: map }, blocks, labels, links, owners, ends, corners);
+    let (cycles, corners) = list(&mut Map { n, cells: map }, blocks, labels, links, owners, ends, corners, areas);
     work[..2 * whole].fill(0);
     Traced { number: 0, regions, cycles, corners }
 }
@@ -57,6 +58,7 @@ fn link(labels: &[u32], links: &mut [u32], heads: &mut [u32]) {
 }
 
 /// Lists the cycles region by region, each region's in rising code of their starts; returns how many cycles and corners.
+#[allow(clippy::too_many_arguments)]
 fn list(
     map: &mut Map,
     blocks: Blocks,
@@ -65,6 +67,7 @@ fn list(
     owners: &mut [u32],
     ends: &mut [u32],
     corners: &mut [u32],
+    areas: &mut [i32],
 ) -> (u32, u32) {
     let (mut region, mut cycles, mut end) = (0, 0, 0);
     for (first, &label) in labels.iter().enumerate() {
@@ -77,9 +80,11 @@ fn list(
             let (x, y) = pixel(blocks.codes[block]);
             for x in x..x + (1 << blocks.levels[block]) {
                 if map.starts(x, y) {
-                    end += map.walk((y << 9 | x) as u32, &mut corners[end..]);
+                    let (count, area) = map.walk((y << 9 | x) as u32, &mut corners[end..]);
+                    end += count;
                     owners[cycles] = region;
                     ends[cycles] = end as u32;
+                    areas[cycles] = area;
                     cycles += 1;
                 }
             }
@@ -115,10 +120,10 @@ impl Map<'_> {
         pixel & !(side << 9 | side) == 0 && self.cells[self.at(pixel)] & !WALKED == region
     }
 
-    /// Walks the cycle from the north side of the pixel `start`, writes its corners and returns their number.
-    fn walk(&mut self, start: u32, corners: &mut [u32]) -> usize {
+    /// Walks the cycle from the north side of the pixel `start`, writes its corners and returns their number and its area.
+    fn walk(&mut self, start: u32, corners: &mut [u32]) -> (usize, i32) {
         let region = self.cells[self.at(start)];
-        let (mut pixel, mut direction, mut count) = (start, 0, 1);
+        let (mut pixel, mut direction, mut count, mut area) = (start, 0, 1, 0);
         corners[0] = start;
         loop {
             if direction == 0 {
@@ -136,10 +141,15 @@ impl Map<'_> {
             } else {
                 (pixel, direction) = (beside, left);
             }
-            if pixel == start && direction == 0 {
-                return count;
+            let corner = pixel + TAIL[direction];
+            if direction % 2 == 0 {
+                // a run along y ends here
+                area += (corner & 511) as i32 * ((corner >> 9) as i32 - (corners[count - 1] >> 9) as i32);
+                if pixel == start && direction == 0 {
+                    return (count, area);
+                }
             }
-            corners[count] = pixel + TAIL[direction];
+            corners[count] = corner;
             count += 1;
         }
     }

@@ -6,8 +6,10 @@ use mathlib.Core.List.{List, []}
 use Prim.Native.Nat.{ℕ, suc, _*_, _^_, _≤_, _<_}
 use native.Mathlib.Omega.{arith}
 use lib.ListN.{length, getD, replicate, length-replicate, getD-replicate}
+use lib.IntN.{ℤ, pos}
+use lib.Signed.{_<ℤ_, mag}
 use Rattle.sequences.specs.Cases.{written-accepted, written-refused, count-accepted, count-refused}
-use Rattle.sequences.specs.Over.{over, over-none, over-inside, over-beyond}
+use Rattle.sequences.specs.Over.{over, over-none, over-inside, over-beyond, over-inside-or, over-beyond-or}
 use Rattle.sequences.specs.Ranges.{tabulate}
 use Rattle.interleaving.specs.Codes.{code}
 use Rattle.quadtree.specs.Blocks.{blocks, paint}
@@ -20,13 +22,14 @@ use Rattle.components.specs.Walk.{block-count}
 use Rattle.lattice.specs.Directions.{rightOf, digit, head}
 use Rattle.lattice.specs.Walks.{outline, corners}
 use Rattle.lattice.specs.CycleForm.{cycleForm}
+use Rattle.lattice.specs.Area.{area}
 use Rattle.orbits.specs.Members.{In, Distinct, one-place}
 use Rattle.orbits.specs.Orbits.{iter}
 use Rattle.grid.specs.Map.{regionAt}
 use Rattle.grid.specs.Margins.{Margin}
 use Rattle.grid.specs.Steps.{Edge, step}
 use Rattle.grid.specs.Cycles.{cycleFrom, northSide, cycle}
-use Rattle.grid.specs.Listing.{startCodes, Cycle, owners, ends, allCorners, pointsAt, cycleCount, cornerCount}
+use Rattle.grid.specs.Listing.{startCodes, Cycle, owners, ends, allCorners, areas, pointsAt, cycleCount, cornerCount}
 use Rattle.grid.specs.Listed.{OnceIn, SidesOnce, OutlinesListed, listing-length, points-at, outline-at, ring-at, each-side-once, pixel-side-once, all-outlines-listed}
 use Rattle.grid.specs.Undoing.{back, step-edge}
 use Rattle.grid.specs.Returning.{Ring, edge-returns, back-edge, step-back, step-injective, cycles-equal-or-apart}
@@ -35,12 +38,13 @@ use Rattle.grid.specs.Forms.{listed-is-cycle-form}
 use Rattle.grid.specs.Outer.{OuterAt, first-is-outer, region-has-first}
 use Rattle.grid.specs.Sides.{sideAt, beyond}
 use Rattle.grid.specs.Starting.{margin}
-use Rattle.grid.specs.Stretches.{length-owners, length-ends, last-end}
+use Rattle.grid.specs.Stretches.{length-owners, length-ends, length-areas, area-at, last-end}
 use Rattle.grid.specs.Pinches.{meeting-turns-right}
+use Rattle.winding.specs.Signs.{outer-above, others-below, area-fits}
 use Rattle.stretches.specs.Stretch.{stretchOf}
 use Rattle.regions.specs.Promise.{Numbering, numbered}
 use Rattle.regions.specs.Callers.{labelOfPixel, labels-by-least-codes}
-use Rattle.tracing.specs.Tracing.{Lent, tracingNumber, outlinesOf, cyclesWritten, labelsLeft, zerosLeft, regionsListed, Tracing, Needs, needs-met, none-short}
+use Rattle.tracing.specs.Tracing.{Lent, tracingNumber, outlinesOf, cyclesWritten, labelsLeft, zerosLeft, regionsListed, Tracing, Needs, needs-met, none-short, short-unless-met}
 use Rattle.tracing.specs.declared.Traced.{Traced}
 use Rattle.held.specs.Held.{cyclesHeld, stretch-is-cycle, cycles-read-back}
 
@@ -131,6 +135,16 @@ pub record AtExit (n : ℕ) (cs ls ks : List ℕ) (before after : Lent) (r : Tra
       → OuterAt n (numbersOf n cs ls ks) (heldAt after r) k (getD (startsOf n cs ls ks) k 0)
   pub each-region : (v : ℕ) → v < r .regions
       → (k : ℕ) × (k < r .cycles) × (getD (after .ownerList) k 0 ≡ v) × ((j : ℕ) → j < k → getD (after .ownerList) j 0 ≢ getD (after .ownerList) k 0)
+  -- "Each cycle gets a signed 32-bit area, the sum over its unit edges of x times the change of y" (document 02, request c): the entries up
+  -- to the count are those defined, each the area of the sides walked from the cycle's stretch; 32 bits hold it
+  pub areas-listed : (k : ℕ) → k < r .cycles → getD (after .areaList) k (pos 0) ≡ getD (areas (outlinesOf n cs ls ks)) k (pos 0)
+  pub area-of-stretch : (k : ℕ) → k < r .cycles → getD (after .areaList) k (pos 0) ≡ area (sidesAt after r k)
+  pub area-within : (k : ℕ) → k < r .cycles → mag (getD (after .areaList) k (pos 0)) < 2147483648
+  -- "A region's first cycle has an area above zero and its other cycles have areas below zero" (document 02, request c)
+  pub first-above : (k : ℕ) → k < r .cycles → ((j : ℕ) → j < k → getD (after .ownerList) j 0 ≢ getD (after .ownerList) k 0)
+      → pos 0 <ℤ getD (after .areaList) k (pos 0)
+  pub others-below : (j k : ℕ) → j < k → k < r .cycles → getD (after .ownerList) j 0 ≡ getD (after .ownerList) k 0
+      → getD (after .areaList) k (pos 0) <ℤ pos 0
   -- an outline that meets itself at a point turns right there: the step after its side i does, which by `stepwise` is its next side
   pub meeting : (k i j : ℕ) → k < r .cycles → i < length (sidesAt after r k) → j < length (sidesAt after r k) → i ≢ j
       → head (getD (sidesAt after r k) i 0) ≡ head (getD (sidesAt after r k) j 0)
@@ -142,6 +156,7 @@ pub record AtExit (n : ℕ) (cs ls ks : List ℕ) (before after : Lent) (r : Tra
   pub owners-kept : (i : ℕ) → r .cycles ≤ i → getD (after .ownerList) i 0 ≡ getD (before .ownerList) i 0
   pub ends-kept : (i : ℕ) → r .cycles ≤ i → getD (after .endList) i 0 ≡ getD (before .endList) i 0
   pub corners-kept : (i : ℕ) → r .corners ≤ i → getD (after .cornerList) i 0 ≡ getD (before .cornerList) i 0
+  pub areas-kept : (i : ℕ) → r .cycles ≤ i → getD (after .areaList) i (pos 0) ≡ getD (before .areaList) i (pos 0)
 
 module _ {n : ℕ} {cs ls ks : List ℕ} {before after : Lent} {r : Traced} (p : Tracing n cs ls ks before after r) where
   number-answered : r .number ≡ tracingNumber n cs ls ks before
@@ -150,11 +165,22 @@ module _ {n : ℕ} {cs ls ks : List ℕ} {before after : Lent} {r : Traced} (p :
   -- An accepted list, with lent lists of at least the stated lengths, is never refused, whatever stood in them before.
   pub not-refused : Needs n cs ls ks before → r .number ≡ 0
   not-refused m =
-      number-answered ∙ sym (none-short n cs ls ks before (m .accepted) (m .for-labels) (m .for-work) (m .for-owners) (m .for-ends) (m .for-corners))
+      number-answered ∙ sym (none-short n cs ls ks before (m .accepted) (m .for-labels) (m .for-work) (m .for-owners) (m .for-ends) (m .for-corners) (m .for-areas))
+
+  -- 8 comes last: where the check finds nothing, for any list shorter than its need, the area list among them.
+  pub eight-comes-last : number n cs ls ks ≡ 0 → (Needs n cs ls ks before → ⊥) → r .number ≡ 8
+  eight-comes-last accepted not-met = number-answered ∙ sym (short-unless-met n cs ls ks before accepted not-met)
+
+  pub short-areas-refused : number n cs ls ks ≡ 0 → length (before .areaList) < 4 ^ n → r .number ≡ 8
+  short-areas-refused accepted h = eight-comes-last accepted (λ m. omega (arith, m .for-areas))
+
+  -- Nothing else is accepted.
+  pub accepted-only : r .number ≡ 0 → Needs n cs ls ks before
+  accepted-only ok = needs-met n cs ls ks before (sym number-answered ∙ ok)
 
   -- A refusal has counts 0 and leaves all lists.
   pub refusal-leaves-all : (r .number ≡ 0 → ⊥) → (r .regions ≡ 0) × (r .cycles ≡ 0) × (r .corners ≡ 0) × (after ≡ before)
-  unfolding cyclesWritten labelsLeft zerosLeft regionsListed cycleCount cornerCount owners ends allCorners
+  unfolding cyclesWritten labelsLeft zerosLeft regionsListed cycleCount cornerCount owners ends allCorners areas
   refusal-leaves-all h =
       let some : 0 < tracingNumber n cs ls ks before = omega (arith, number-answered) in
       let no-cycles : cyclesWritten n cs ls ks before ≡ [] = written-refused (tracingNumber n cs ls ks before) (outlinesOf n cs ls ks) some in
@@ -169,11 +195,20 @@ module _ {n : ℕ} {cs ls ks : List ℕ} {before after : Lent} {r : Traced} (p :
       let same-ends : after .endList ≡ before .endList =
       p .in-ends ∙ ap (λ (c : List Cycle). over (ends c) (before .endList)) no-cycles ∙ over-none (before .endList) in
       let same-corners : after .cornerList ≡ before .cornerList =
-      p .in-corners ∙ ap (λ (c : List Cycle). over (allCorners c) (before .cornerList)) no-cycles ∙ over-none (before .cornerList) in (
+      p .in-corners ∙ ap (λ (c : List Cycle). over (allCorners c) (before .cornerList)) no-cycles ∙ over-none (before .cornerList) in
+      let same-areas : after .areaList ≡ before .areaList =
+      p .in-areas ∙ ap (λ (c : List Cycle). over (areas c) (before .areaList)) no-cycles ∙ over-none (before .areaList) in (
         ap (λ (a : Traced). a .regions) (p .answer) ∙ count-refused (tracingNumber n cs ls ks before) (regions n (paint (blocks cs ls ks))) some,
         ap (λ (a : Traced). a .cycles) (p .answer) ∙ ap cycleCount no-cycles,
         ap (λ (a : Traced). a .corners) (p .answer) ∙ ap cornerCount no-cycles,
-        λ i. record { labelList = same-labels i; workList = same-work i; ownerList = same-owners i; endList = same-ends i; cornerList = same-corners i },
+        λ i. record {
+          labelList = same-labels i;
+          workList = same-work i;
+          ownerList = same-owners i;
+          endList = same-ends i;
+          cornerList = same-corners i;
+          areaList = same-areas i;
+        },
       )
 
   module _ (ok : r .number ≡ 0) where
@@ -181,7 +216,7 @@ module _ {n : ℕ} {cs ls ks : List ℕ} {before after : Lent} {r : Traced} (p :
     zero-number = sym number-answered ∙ ok
 
     met : Needs n cs ls ks before
-    met = needs-met n cs ls ks before zero-number
+    met = accepted-only ok
 
     passes : Passes n cs ls ks
     passes = number-zero n cs ls ks (met .accepted)
@@ -208,6 +243,9 @@ module _ {n : ℕ} {cs ls ks : List ℕ} {before after : Lent} {r : Traced} (p :
 
     points-are : after .cornerList ≡ over (allCorners (outlinesOf n cs ls ks)) (before .cornerList)
     points-are = p .in-corners ∙ ap (λ (c : List Cycle). over (allCorners c) (before .cornerList)) written
+
+    areas-are : after .areaList ≡ over (areas (outlinesOf n cs ls ks)) (before .areaList)
+    areas-are = p .in-areas ∙ ap (λ (c : List Cycle). over (areas c) (before .areaList)) written
 
     labels-are : after .labelList ≡ over (labels n (blocks cs ls ks)) (before .labelList)
     unfolding labelsLeft
@@ -269,6 +307,11 @@ module _ {n : ℕ} {cs ls ks : List ℕ} {before after : Lent} {r : Traced} (p :
     unfolding cornerCount
     corner-is i h =
         ap (λ (ps : List ℕ). getD ps i 0) points-are ∙ over-inside (allCorners (outlinesOf n cs ls ks)) (before .cornerList) i (omega (arith, corners-are))
+
+    area-is : (k : ℕ) → k < r .cycles → getD (after .areaList) k (pos 0) ≡ getD (areas (outlinesOf n cs ls ks)) k (pos 0)
+    area-is k h =
+        ap (λ (zs : List ℤ). getD zs k (pos 0)) areas-are
+        ∙ over-inside-or (pos 0) (areas (outlinesOf n cs ls ks)) (before .areaList) k (omega (arith, length-areas (outlinesOf n cs ls ks), cycles-are))
 
     first-outer : (k : ℕ) → k < r .cycles → ((j : ℕ) → j < k → getD (after .ownerList) j 0 ≢ getD (after .ownerList) k 0)
         → OuterAt n (numbersOf n cs ls ks) (outlinesOf n cs ls ks) k (getD (startsOf n cs ls ks) k 0)
@@ -339,6 +382,28 @@ module _ {n : ℕ} {cs ls ks : List ℕ} {before after : Lent} {r : Traced} (p :
     sides-walked : (k : ℕ) → k < r .cycles → sidesAt after r k ≡ cycle n (numbersOf n cs ls ks) (getD (startsOf n cs ls ks) k 0)
     sides-walked k h = ap outline (stretch-is k h) ∙ sides-are-cycle k (omega (arith, cycles-are))
 
+    -- ---- areas
+
+    area-of-sides : (k : ℕ) → k < r .cycles → getD (after .areaList) k (pos 0) ≡ area (sidesAt after r k)
+    area-of-sides k h = area-is k h ∙ area-at (outlinesOf n cs ls ks) k (omega (arith, cycles-are)) ∙ ap area (ap outline (sym (stretch-is k h)))
+
+    within : (k : ℕ) → k < r .cycles → mag (getD (after .areaList) k (pos 0)) < 2147483648
+    unfolding outlinesOf
+    within k h =
+        subst (λ (z : ℤ). mag z < 2147483648) (sym (area-is k h)) (area-fits n (numbersOf n cs ls ks) (regions n (paint (blocks cs ls ks))) small k (omega (arith, cycles-are)))
+
+    above : (k : ℕ) → k < r .cycles → ((j : ℕ) → j < k → getD (after .ownerList) j 0 ≢ getD (after .ownerList) k 0) → pos 0 <ℤ getD (after .areaList) k (pos 0)
+    unfolding outlinesOf
+    above k h first =
+        subst (λ (z : ℤ). pos 0 <ℤ z) (sym (area-is k h))
+        (outer-above n (paint (blocks cs ls ks)) small k (omega (arith, cycles-are)) (λ j i e. first j i (owner-is j (omega arith) ∙ e ∙ sym (owner-is k h))))
+
+    below : (j k : ℕ) → j < k → k < r .cycles → getD (after .ownerList) j 0 ≡ getD (after .ownerList) k 0 → getD (after .areaList) k (pos 0) <ℤ pos 0
+    unfolding outlinesOf
+    below j k i h e =
+        subst (λ (z : ℤ). z <ℤ pos 0) (sym (area-is k h))
+        (others-below n (paint (blocks cs ls ks)) small j k i (omega (arith, cycles-are)) (sym (owner-is j (omega arith)) ∙ e ∙ owner-is k h))
+
     form : (k : ℕ) → k < length (outlinesOf n cs ls ks) → cycleForm (pointsAt (outlinesOf n cs ls ks) k) ≡ true
     unfolding outlinesOf
     form k h = listed-is-cycle-form n (numbersOf n cs ls ks) (regions n (paint (blocks cs ls ks))) small k h
@@ -389,6 +454,11 @@ module _ {n : ℕ} {cs ls ks : List ℕ} {before after : Lent} {r : Traced} (p :
       cycle-form = λ k h. ap cycleForm (stretch-is k h) ∙ form k (omega (arith, cycles-are));
       outer = λ k h first. subst (λ (c : List Cycle). OuterAt n (numbersOf n cs ls ks) c k (getD (startsOf n cs ls ks) k 0)) (sym lists-hold-the-listing) (first-outer k h first);
       each-region = region-first;
+      areas-listed = area-is;
+      area-of-stretch = area-of-sides;
+      area-within = within;
+      first-above = above;
+      others-below = below;
       meeting = λ k i j h. meets k i j (omega (arith, cycles-are)) (sidesAt after r k) (sides-walked k h);
       work-cleared = λ i h.
           ap (λ (w : List ℕ). getD w i 0) work-is ∙ over-inside (replicate (2 * 4 ^ n) 0) (before .workList) i (omega (arith, zeros-long)) ∙ getD-replicate (2 * 4 ^ n) i 0 0 h;
@@ -403,4 +473,7 @@ module _ {n : ℕ} {cs ls ks : List ℕ} {before after : Lent} {r : Traced} (p :
           ap (λ (w : List ℕ). getD w i 0) ends-are
           ∙ over-beyond (ends (outlinesOf n cs ls ks)) (before .endList) i (omega (arith, length-ends (outlinesOf n cs ls ks), cycles-are));
       corners-kept = λ i h. ap (λ (w : List ℕ). getD w i 0) points-are ∙ over-beyond (allCorners (outlinesOf n cs ls ks)) (before .cornerList) i (corner-length i h);
+      areas-kept = λ i h.
+          ap (λ (zs : List ℤ). getD zs i (pos 0)) areas-are
+          ∙ over-beyond-or (pos 0) (areas (outlinesOf n cs ls ks)) (before .areaList) i (omega (arith, length-areas (outlinesOf n cs ls ks), cycles-are));
     }

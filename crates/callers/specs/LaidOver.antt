@@ -73,11 +73,11 @@ pub as-any-other : {n : ℕ} {a b before after : BlockList} {r : Written} → Ov
     → {labels₀ work₀ labels₁ work₁ : List ℕ} {s : Numbered} → r .count ≤ length labels₀ → 2 * 4 ^ n ≤ length work₀
     → Numbering n (resultOf after r .codes) (resultOf after r .levels) (resultOf after r .colours) labels₀ work₀ labels₁ work₁ s
     → {lent left : Lent} {t : Traced} → r .count ≤ length (lent .labelList) → 2 * 4 ^ n ≤ length (lent .workList) → 4 ^ n ≤ length (lent .ownerList)
-    → 4 ^ n ≤ length (lent .endList) → 4 * 4 ^ n ≤ length (lent .cornerList)
+    → 4 ^ n ≤ length (lent .endList) → 4 * 4 ^ n ≤ length (lent .cornerList) → 4 ^ n ≤ length (lent .areaList)
     → Tracing n (resultOf after r .codes) (resultOf after r .levels) (resultOf after r .colours) lent left t
     → AsAnyOther n (larger (imageOf a) (imageOf b)) (resultOf after r) labels₁ s lent left t
 unfolding outlinesOf
-as-any-other {n} {a} {b} {before} {after} {r} p ok {labels₀} {work₀} {labels₁} {work₁} {s} for-labels for-work q {lent} {left} {t} labels work owners ends corners u =
+as-any-other {n} {a} {b} {before} {after} {r} p ok {labels₀} {work₀} {labels₁} {work₁} {s} for-labels for-work q {lent} {left} {t} labels work owners ends corners areas u =
     let list = resultOf after r in
     let accepted = result-accepted p ok in
     let few : length (list .codes) ≤ r .count = omega (arith, length-take (r .count) (after .codes)) in
@@ -89,6 +89,7 @@ as-any-other {n} {a} {b} {before} {after} {r} p ok {labels₀} {work₀} {labels
       for-owners = owners;
       for-ends = ends;
       for-corners = corners;
+      for-areas = areas;
     }) in
     let exit = accepted-at-exit u traced in
     record {

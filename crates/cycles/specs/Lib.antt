@@ -1,6 +1,7 @@
 -- The map of regions with its marks, the walk along one cycle, and what writing one cycle promises.
 pub mod Mapped
 pub mod Marks
+pub mod Areas
 pub mod Promise
 pub mod Points
 pub mod Straight

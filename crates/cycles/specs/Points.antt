@@ -5,10 +5,10 @@ use mathlib.Core.List.{List}
 use Prim.Native.Nat.{ℕ, _+_, _*_, _≤_, _<_}
 use lib.ListN.{set}
 use Rattle.lattice.specs.Directions.{point, xOf, yOf, edge, digit}
-use Rattle.lattice.specs.Outlines.{tail-edge, digit-edge}
+use Rattle.lattice.specs.Outlines.{x-of-point, y-of-point, tail-edge, digit-edge}
 use Rattle.grid.specs.Steps.{Edge}
 use Rattle.steps.specs.Look.{markBit, mapAt, Square, row-small, at-margin}
-use Rattle.steps.specs.Rule.{x-of-point, y-of-point, Way, way}
+use Rattle.steps.specs.Rule.{Way, way}
 use Rattle.cycles.specs.Marks.{mark, spot, mark-east, mark-other, EastPixel, east-pixel, region-known}
 
 -- The edge from (x, y) with the digit d is an edge of the region r.

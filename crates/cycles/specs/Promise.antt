@@ -4,14 +4,17 @@ use mathlib.Core.Logic.{_⊎_, _↔_}
 use mathlib.Core.List.{List}
 use Prim.Native.Nat.{ℕ, suc, _^_, _≤_, _<_}
 use lib.ListN.{length, getD}
+use lib.IntN.{ℤ, natAbs}
 use Rattle.sequences.specs.Over.{over}
 use Rattle.interleaving.specs.Codes.{code}
 use Rattle.lattice.specs.Walks.{corners}
+use Rattle.lattice.specs.Area.{area}
 use Rattle.orbits.specs.Members.{In}
 use Rattle.grid.specs.Cycles.{northSide, cycle}
 use Rattle.grid.specs.Starting.{StartAt}
 use Rattle.cycles.specs.Mapped.{numsOf, Mapped, Marked}
 use Rattle.cycles.specs.Marks.{marks}
+use Rattle.cycles.specs.Areas.{areaBound}
 
 -- A cycle starts at the pixel (x, y) of the map, and its corners have room in the list `out`.
 pub record StartsHere (n : ℕ) (map out : List ℕ) (x y : ℕ) : Type 0 where
@@ -27,11 +30,13 @@ unfoldable pub cycleMarked : ℕ → List ℕ → ℕ → List ℕ
 unfolding marks numsOf cycle
 cycleMarked n map c = marks (2 ^ n) (suc (getD (numsOf n map) c 0)) (cycle n (numsOf n map) c) map
 
--- The cycle is written: k corners at the front of the list `out`, and its marks in the map. So the map's numbers and what lies beyond it
--- are as they were, and marked are the pixels that were and those south of the cycle's eastward edges.
-pub record CycleWritten (n : ℕ) (map out : List ℕ) (c : ℕ) (map′ out′ : List ℕ) (k : ℕ) : Type 0 where
+-- The cycle is written: k corners at the front of the list `out`, and its marks in the map; sum is its area, within the bound. So the map's
+-- numbers and what lies beyond it are as they were, and marked are the pixels that were and those south of the cycle's eastward edges.
+pub record CycleWritten (n : ℕ) (map out : List ℕ) (c : ℕ) (map′ out′ : List ℕ) (k : ℕ) (sum : ℤ) : Type 0 where
   pub count : k ≡ length (corners (cycle n (numsOf n map) c))
   pub list : out′ ≡ over (corners (cycle n (numsOf n map) c)) out
+  pub its-area : sum ≡ area (cycle n (numsOf n map) c)
+  pub area-low : natAbs sum ≤ areaBound
   pub in-map : map′ ≡ cycleMarked n map c
   pub mapped : Mapped n map′
   pub same-numbers : numsOf n map′ ≡ numsOf n map

@@ -2,13 +2,14 @@
 use mathlib.Core.Path.{_≡_, refl, sym, ap, ap₂, _∙_, subst}
 use mathlib.Core.Logic.{_≢_}
 use mathlib.Core.List.{List}
-use Prim.Native.Nat.{ℕ, _≤_, _<_}
+use Prim.Native.Nat.{ℕ, _%_, _≤_, _<_}
 use native.Mathlib.Omega.{arith}
 use lib.ListN.{length}
-use Rattle.lattice.specs.Directions.{point, move, edge, digit, head}
+use Rattle.lattice.specs.Directions.{point, move, opposite, edge, digit, head}
 use Rattle.lattice.specs.Outlines.{tail-edge, digit-edge}
 use Rattle.grid.specs.Steps.{Edge, turn, step}
 use Rattle.grid.specs.Undoing.{step-is, step-edge}
+use Rattle.grid.specs.East.{no-reverse}
 use Rattle.steps.specs.Look.{mapAt, Square, at-margin}
 use Rattle.steps.specs.Rule.{moveX, moveY, unitsAhead, Moved, moved}
 use Rattle.cycles.specs.Marks.{mark, length-mark, map-kept}
@@ -25,6 +26,7 @@ pub record Gone (side r : ℕ) (map : List ℕ) (x y d : ℕ) (map′ : List ℕ
   pub x-low : x′ ≤ 256
   pub y-low : y′ ≤ 256
   pub low : d′ < 4
+  pub turned : d′ % 2 ≢ d % 2
   pub straight : Straight side r (mapAt side map) map′ (edge (point x′ y′) d′) map (edge (point x y) d)
 
 -- On the way from (column, row) in the list map₀ to (x, y): what is straight from here is straight from there.
@@ -72,6 +74,14 @@ module _ {side r column row x y d : ℕ} {map₀ map : List ℕ} (w : Onward sid
         stepped-there : edge (point x′ y′) o ≡ step (mapAt side map₀) (edge (point x y) d)
         stepped-there = stepped ∙ ap (λ m. step m (edge (point x y) d)) (w .same-map)
 
+        -- The rule never goes back, so a turn leads from a row to a column, or from a column to a row.
+        turns-off : o ≢ d → o % 2 ≢ d % 2
+        unfolding opposite
+        turns-off n h =
+            let back : o ≢ opposite d = λ q. no-reverse (mapAt side map) (at-margin side map (w .at .square .small)) r (edge (point x y) d) (w .at .on-region)
+            (ap digit (sym stepped) ∙ digit-edge (point x′ y′) o (ho .1) ∙ q ∙ ap opposite (sym (digit-edge (point x y) d (w .at .low)))) in
+            omega (arith, back, ho .1, w .at .low)
+
         pub one-further : OneFurther side r map₀ column row map′ x y d x′ y′ o
         one-further = record {
           long = long-then ∙ w .long;
@@ -79,6 +89,7 @@ module _ {side r column row x y d : ℕ} {map₀ map : List ℕ} (w : Onward sid
             x-low = moved-here .x-low;
             y-low = moved-here .y-low;
             low = ho .1;
+            turned = turns-off n;
             straight = w .behind map′ (edge (point x′ y′) o)
                 (turning hm stepped-there (λ h. n (sym (digit-edge (point x′ y′) o (ho .1)) ∙ h ∙ digit-edge (point x y) d (w .at .low))));
           };

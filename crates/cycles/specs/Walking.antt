@@ -1,28 +1,32 @@
--- The walk along one cycle that writes its corners and marks its eastward edges: what holds at the loop's head, and that a turn keeps it.
-use mathlib.Core.Path.{_≡_, refl, sym, ap, _∙_, subst}
+-- The walk along one cycle that writes its corners, adds up its area and marks its eastward edges: what holds at the loop's head, and that
+-- a turn keeps it.
+use mathlib.Core.Path.{_≡_, refl, sym, ap, ap₂, _∙_, subst, subst₂}
 use mathlib.Core.Logic.{_≢_}
 use mathlib.Core.List.{List, [], _∷_, _++_, append-assoc, append-nil}
-use Prim.Native.Nat.{ℕ, zero, suc, _+_, _*_, _≤_, _<_}
+use Prim.Native.Nat.{ℕ, zero, suc, _+_, _*_, _%_, _≤_, _<_}
 use native.Mathlib.Nat.{not-suc-le-zero}
 use native.Mathlib.Omega.{arith}
 use lib.ListN.{length, set, length-append, length-set}
+use lib.IntN.{ℤ, pos, natAbs, _+ℤ_, _*ℤ_, +ℤ-assoc, +ℤ-idr, +ℤ-invr, *ℤ-zero}
 use Rattle.sequences.specs.Over.{over, over-none, over-push}
-use Rattle.lattice.specs.Directions.{point, edge, tail, digit}
+use Rattle.lattice.specs.Directions.{point, yOf, edge, tail, digit}
 use Rattle.lattice.specs.Walks.{turns}
 use Rattle.lattice.specs.Corners.{turns-on, turns-turn}
-use Rattle.lattice.specs.Outlines.{tail-edge, digit-edge}
+use Rattle.lattice.specs.Outlines.{x-of-point, y-of-point, tail-edge, digit-edge}
+use Rattle.lattice.specs.Area.{area, legArea, legBetween, Aligned, area-push, aligned-then, legs-joined, area-size}
 use Rattle.orbits.specs.Orbits.{until, Returns}
 use Rattle.orbits.specs.StepsTo.{StepsTo, round, arrived, Further, further}
 use Rattle.grid.specs.Margins.{Margin}
 use Rattle.grid.specs.Steps.{Edge, step}
 use Rattle.grid.specs.Cycles.{edgeLimit, cycleFrom}
 use Rattle.grid.specs.Undoing.{digit-below-four, step-edge}
-use Rattle.grid.specs.Returning.{edge-returns}
+use Rattle.grid.specs.Returning.{Ring, edge-returns, ring}
 use Rattle.grid.specs.Closing.{others, cycle-first}
 use Rattle.steps.specs.Look.{mapAt, Square, at-margin}
 use Rattle.cycles.specs.Marks.{mark, marks, length-mark, map-kept}
 use Rattle.steps.specs.Rule.{Way, way}
 use Rattle.cycles.specs.Points.{EdgeAt}
+use Rattle.cycles.specs.Areas.{areaBound, edge-leg, edge-aligned}
 use Rattle.cycles.specs.Straight.{Straight, turning, straight-on, Gone}
 
 -- The corners of the cycle through the edge s of a map, whose direction differs from that of the edge before.
@@ -37,10 +41,12 @@ pub record Ready (side r s : ℕ) (map out : List ℕ) : Type 0 where
   pub room : length (cornersFrom (mapAt side map) s) ≤ length out
   pub corner : (e : ℕ) → Edge (mapAt side map) r e → step (mapAt side map) e ≡ s → digit e ≢ digit s
 
--- They are written, and the eastward edges of the cycle are marked.
-pub record CycleWalked (side r s : ℕ) (map out map′ out′ : List ℕ) (k : ℕ) : Type 0 where
+-- They are written, sum is the area of the cycle, within the bound, and its eastward edges are marked.
+pub record CycleWalked (side r s : ℕ) (map out map′ out′ : List ℕ) (k : ℕ) (sum : ℤ) : Type 0 where
   pub count : k ≡ length (cornersFrom (mapAt side map) s)
   pub list : out′ ≡ over (cornersFrom (mapAt side map) s) out
+  pub its-area : sum ≡ area (cycleFrom (mapAt side map) s)
+  pub area-low : natAbs sum ≤ areaBound
   pub marked : map′ ≡ marks side r (cycleFrom (mapAt side map) s) map
 
 one-less : {x : ℕ} {l t : List ℕ} → l ≡ x ∷ t → length t < length l
@@ -51,9 +57,9 @@ unfoldable pub rest : (ℕ → ℕ → ℕ) → ℕ → ℕ → List ℕ
 unfolding until step
 rest m s e = until edgeLimit (step m) s e
 
--- On the way at the edge e: `used` corners are written, and d is the digit before the edges `todo` that are left. From the edge `from`
--- on `left` steps lead back to s.
-pub record CycleUnderway (side r s : ℕ) (map₀ out₀ map out : List ℕ) (used d e from : ℕ) (todo : List ℕ) : Type 0 where
+-- On the way at the edge e: `used` corners are written, sum is the area of the edges walked, and d is the digit before the edges `todo` that
+-- are left. From the edge `from` on `left` steps lead back to s.
+pub record CycleUnderway (side r s : ℕ) (map₀ out₀ map out : List ℕ) (used d e from : ℕ) (todo : List ℕ) (sum : ℤ) : Type 0 where
   pub left : ℕ
   pub ahead : StepsTo (step (mapAt side map₀)) s from left
   pub enough : left ≤ edgeLimit
@@ -65,28 +71,31 @@ pub record CycleUnderway (side r s : ℕ) (map₀ out₀ map out : List ℕ) (us
   pub so-far : used ≡ length done
   pub list : out ≡ over done out₀
   pub total : done ++ turns d todo ≡ cornersFrom (mapAt side map₀) s
+  pub walked : List ℕ
+  pub whole : walked ++ todo ≡ cycleFrom (mapAt side map₀) s
+  pub added : sum ≡ area walked
   pub marked : marks side r todo map ≡ marks side r (cycleFrom (mapAt side map₀) s) map₀
 
 -- Before the edge e is done: a corner is due at its tail where d is not its digit. d is the digit before it, 4 at the start, and e's own
 -- once its corner is written.
-abbrev pub AtEdge : ℕ → ℕ → ℕ → List ℕ → List ℕ → List ℕ → List ℕ → ℕ → ℕ → ℕ → Type 0
-AtEdge side r s map₀ out₀ map out used d e =
+abbrev pub AtEdge : ℕ → ℕ → ℕ → List ℕ → List ℕ → List ℕ → List ℕ → ℕ → ℕ → ℕ → ℤ → Type 0
+AtEdge side r s map₀ out₀ map out used d e sum =
     let next : ℕ = step (mapAt side map₀) e in
-    CycleUnderway side r s map₀ out₀ map out used d e next (e ∷ rest (mapAt side map₀) s next)
+    CycleUnderway side r s map₀ out₀ map out used d e next (e ∷ rest (mapAt side map₀) s next) sum
 
 -- After an edge: e is the next one.
-abbrev pub PastEdge : ℕ → ℕ → ℕ → List ℕ → List ℕ → List ℕ → List ℕ → ℕ → ℕ → ℕ → Type 0
-PastEdge side r s map₀ out₀ map out used d e = CycleUnderway side r s map₀ out₀ map out used d e e (rest (mapAt side map₀) s e)
+abbrev pub PastEdge : ℕ → ℕ → ℕ → List ℕ → List ℕ → List ℕ → List ℕ → ℕ → ℕ → ℕ → ℤ → Type 0
+PastEdge side r s map₀ out₀ map out used d e sum = CycleUnderway side r s map₀ out₀ map out used d e e (rest (mapAt side map₀) s e) sum
 
 module _ {side r s : ℕ} {map₀ out₀ : List ℕ} (ready : Ready side r s map₀ out₀) where
   margin-here : Margin (mapAt side map₀)
   margin-here = at-margin side map₀ (ready .square .small)
 
-  begin : AtEdge side r s map₀ out₀ map₀ out₀ 0 4 s
-  unfolding rest cornersFrom others
+  begin : AtEdge side r s map₀ out₀ map₀ out₀ 0 4 s (pos 0)
+  unfolding rest cornersFrom others area
   begin = from (edge-returns (mapAt side map₀) margin-here r s (ready .on-region))
     where
-      from : (k : ℕ) × (k ≤ edgeLimit) × Returns (step (mapAt side map₀)) s k → AtEdge side r s map₀ out₀ map₀ out₀ 0 4 s
+      from : (k : ℕ) × (k ≤ edgeLimit) × Returns (step (mapAt side map₀)) s k → AtEdge side r s map₀ out₀ map₀ out₀ 0 4 s (pos 0)
       from (zero, h, t) = absurd (not-suc-le-zero (t .positive))
       from (suc k, h, t) = record {
         left = k;
@@ -100,10 +109,13 @@ module _ {side r s : ℕ} {map₀ out₀ : List ℕ} (ready : Ready side r s map
         so-far = refl;
         list = sym (over-none out₀);
         total = turns-turn 4 s (others (mapAt side map₀) s) (omega (arith, digit-below-four s));
+        walked = [];
+        whole = sym (cycle-first (mapAt side map₀) s);
+        added = refl;
         marked = ap (λ l. marks side r l map₀) (sym (cycle-first (mapAt side map₀) s));
       }
 
-  module _ {map out : List ℕ} {used d e : ℕ} (g : AtEdge side r s map₀ out₀ map out used d e) where
+  module _ {map out : List ℕ} {used d e : ℕ} {sum : ℤ} (g : AtEdge side r s map₀ out₀ map out used d e sum) where
     next : List ℕ
     next = rest (mapAt side map₀) s (step (mapAt side map₀) e)
 
@@ -123,7 +135,7 @@ module _ {side r s : ℕ} {map₀ out₀ : List ℕ} (ready : Ready side r s map
         omega (arith, a, g .wide, g .so-far)
 
     -- The corner is written.
-    push : d ≢ digit e → AtEdge side r s map₀ out₀ map (set out used (tail e)) (used + 1) (digit e) e
+    push : d ≢ digit e → AtEdge side r s map₀ out₀ map (set out used (tail e)) (used + 1) (digit e) e sum
     unfolding next
     push n = record {
       left = g .left;
@@ -138,11 +150,15 @@ module _ {side r s : ℕ} {map₀ out₀ : List ℕ} (ready : Ready side r s map
       list = ap (λ t. set t used (tail e)) (g .list) ∙ over-push (g .done) out₀ (tail e) used (g .so-far) (omega (arith, room-here n, g .wide));
       total = ap (λ t. (g .done ++ (tail e ∷ [])) ++ t) (turns-on (digit e) e next refl)
           ∙ append-assoc (g .done) (tail e ∷ []) (turns (digit e) next) ∙ ap (λ t. g .done ++ t) (sym (turns-turn d e next n)) ∙ g .total;
+      walked = g .walked;
+      whole = g .whole;
+      added = g .added;
       marked = g .marked;
     }
 
-    -- The edge is marked, and no corner is due at its tail.
-    pass : {map′ : List ℕ} {e′ : ℕ} → d ≡ digit e → map′ ≡ mark side r map e → e′ ≡ step (mapAt side map₀) e → PastEdge side r s map₀ out₀ map′ out used d e′
+    -- The edge is marked, its area is added, and no corner is due at its tail.
+    pass : {map′ : List ℕ} {e′ : ℕ} → d ≡ digit e → map′ ≡ mark side r map e → e′ ≡ step (mapAt side map₀) e
+        → PastEdge side r s map₀ out₀ map′ out used d e′ (sum +ℤ legBetween (tail e) (tail e′))
     unfolding next marks
     pass {map′} {e′} same hm here = record {
       left = g .left;
@@ -156,14 +172,19 @@ module _ {side r s : ℕ} {map₀ out₀ : List ℕ} (ready : Ready side r s map
       so-far = g .so-far;
       list = g .list;
       total = rw here (ap (λ t. g .done ++ t) (sym (turns-on d e next same)) ∙ g .total);
+      walked = g .walked ++ (e ∷ []);
+      whole = rw here (append-assoc (g .walked) (e ∷ []) next ∙ g .whole);
+      added =
+          ap₂ _+ℤ_ (g .added) (ap (λ a. legBetween (tail e) (tail a)) here ∙ sym (edge-leg (mapAt side map₀) margin-here r e (g .on-region)))
+          ∙ sym (area-push (g .walked) e);
       marked = rw (here, hm) (g .marked);
     }
 
-  module _ {map out : List ℕ} {used d e : ℕ} (p : PastEdge side r s map₀ out₀ map out used d e) where
+  module _ {map out : List ℕ} {used d e : ℕ} {sum : ℤ} (p : PastEdge side r s map₀ out₀ map out used d e sum) where
     more : e ≢ s → Further (step (mapAt side map₀)) s edgeLimit e (p .left)
     more n = further (step (mapAt side map₀)) s edgeLimit e (p .left) (p .enough) n (p .ahead)
 
-    again : e ≢ s → AtEdge side r s map₀ out₀ map out used d e
+    again : e ≢ s → AtEdge side r s map₀ out₀ map out used d e sum
     unfolding rest
     again n =
         let f : Further (step (mapAt side map₀)) s edgeLimit e (p .left) = more n in
@@ -179,6 +200,9 @@ module _ {side r s : ℕ} {map₀ out₀ : List ℕ} (ready : Ready side r s map
           so-far = p .so-far;
           list = p .list;
           total = ap (λ t. p .done ++ turns d t) (sym (f .list)) ∙ p .total;
+          walked = p .walked;
+          whole = ap (λ t. p .walked ++ t) (sym (f .list)) ∙ p .whole;
+          added = p .added;
           marked = ap (λ t. marks side r t map) (sym (f .list)) ∙ p .marked;
         }
 
@@ -187,7 +211,21 @@ module _ {side r s : ℕ} {map₀ out₀ : List ℕ} (ready : Ready side r s map
     unfolding rest
     less n = one-less (more n .list)
 
-    finish : e ≡ s → CycleWalked side r s map₀ out₀ map out used
+    -- Along the way the area stays within the bound.
+    sum-size : natAbs sum ≤ areaBound
+    sum-size =
+        let g : Ring (mapAt side map₀) r s = ring (mapAt side map₀) margin-here r s (ready .on-region) in
+        omega (
+          arith,
+          ap natAbs (p .added),
+          area-size (p .walked),
+          ap length (p .whole),
+          length-append (p .walked) (rest (mapAt side map₀) s e),
+          g .long,
+          g .few,
+        )
+
+    finish : e ≡ s → CycleWalked side r s map₀ out₀ map out used sum
     unfolding rest turns marks
     finish h =
         let z : until edgeLimit (step (mapAt side map₀)) s e ≡ [] = arrived (step (mapAt side map₀)) s edgeLimit e h in
@@ -195,43 +233,54 @@ module _ {side r s : ℕ} {map₀ out₀ : List ℕ} (ready : Ready side r s map
         record {
           count = p .so-far ∙ ap length t;
           list = p .list ∙ ap (λ l. over l out₀) t;
+          its-area = p .added ∙ ap area (sym (append-nil (p .walked)) ∙ ap (λ l. p .walked ++ l) (sym z) ∙ p .whole);
+          area-low = sum-size;
           marked = ap (λ l. marks side r l map) (sym z) ∙ p .marked;
         }
 
   -- Straight on from the edge e, whose corner is written.
-  record Through (map′ out : List ℕ) (used d e e′ : ℕ) : Type 0 where
-    pub passed : PastEdge side r s map₀ out₀ map′ out used d e′
+  record Through (map′ out : List ℕ) (used d e e′ : ℕ) (sum : ℤ) : Type 0 where
+    pub passed : PastEdge side r s map₀ out₀ map′ out used d e′ (sum +ℤ legBetween (tail e) (tail e′))
+    pub aligned : Aligned d (tail e) (tail e′)
     pub turned : d ≢ digit e′
     pub shorter : e′ ≢ s → length (rest (mapAt side map₀) s (step (mapAt side map₀) e′)) < length (rest (mapAt side map₀) s (step (mapAt side map₀) e))
 
-  through : {map map′ out : List ℕ} {used d e e′ : ℕ} → Straight side r (mapAt side map₀) map′ e′ map e → d ≡ digit e
-      → AtEdge side r s map₀ out₀ map out used d e → Through map′ out used d e e′
-  through {map} {map′} {out} {used} {d} {e} {e′} (turning hm here n) same g =
-      let p : PastEdge side r s map₀ out₀ map′ out used d e′ = pass g same hm here in
+  through : {map map′ out : List ℕ} {used d e e′ : ℕ} {sum : ℤ} → Straight side r (mapAt side map₀) map′ e′ map e → d ≡ digit e
+      → AtEdge side r s map₀ out₀ map out used d e sum → Through map′ out used d e e′ sum
+  through {map} {map′} {out} {used} {d} {e} {e′} {sum} (turning hm here n) same g =
+      let p : PastEdge side r s map₀ out₀ map′ out used d e′ (sum +ℤ legBetween (tail e) (tail e′)) = pass g same hm here in
       record {
         passed = p;
+        aligned = subst₂ (λ o a. Aligned o (tail e) (tail a)) (sym same) (sym here) (edge-aligned (mapAt side map₀) margin-here r e (g .on-region));
         turned = λ h. n (sym h ∙ same);
         shorter = λ o. subst (λ a. length (rest (mapAt side map₀) s (step (mapAt side map₀) e′)) < length (rest (mapAt side map₀) s a)) here (less p o);
       }
-  through {map} {map′} {out} {used} {d} {e} {e′} (straight-on straight more) same g =
-      let p : PastEdge side r s map₀ out₀ (mark side r map e) out used d (step (mapAt side map₀) e) = pass g same refl refl in
-      let o : step (mapAt side map₀) e ≢ s = λ h. ready .corner e (g .on-region) h (sym straight ∙ ap digit h) in
-      let t : Through map′ out used d (step (mapAt side map₀) e) e′ = through more (same ∙ sym straight) (again p o) in
+  through {map} {map′} {out} {used} {d} {e} {e′} {sum} (straight-on straight more) same g =
+      let next : ℕ = step (mapAt side map₀) e in
+      let p : PastEdge side r s map₀ out₀ (mark side r map e) out used d next (sum +ℤ legBetween (tail e) (tail next)) = pass g same refl refl in
+      let o : next ≢ s = λ h. ready .corner e (g .on-region) h (sym straight ∙ ap digit h) in
+      let t : Through map′ out used d next e′ (sum +ℤ legBetween (tail e) (tail next)) = through more (same ∙ sym straight) (again p o) in
+      let first : Aligned d (tail e) (tail next) = subst (λ a. Aligned a (tail e) (tail next)) (sym same) (edge-aligned (mapAt side map₀) margin-here r e (g .on-region)) in
       record {
-        passed = t .passed;
+        passed =
+            subst (PastEdge side r s map₀ out₀ map′ out used d e′)
+            (+ℤ-assoc sum (legBetween (tail e) (tail next)) (legBetween (tail next) (tail e′)) ∙ ap (λ z. sum +ℤ z) (legs-joined d (tail e) (tail next) (tail e′) first (t .aligned)))
+            (t .passed);
+        aligned = aligned-then first (t .aligned);
         turned = t .turned;
         shorter = λ n. omega (arith, t .shorter n, less p o);
       }
 
--- At the loop's head: a corner is due at (x, y), where the edge with the digit d begins.
-pub record CornerDue (side r s : ℕ) (map₀ out₀ map out : List ℕ) (used x y d : ℕ) : Type 0 where
+-- Before a run: a corner is due at (x, y), where the edge with the digit d begins, and sum is the area so far.
+pub record CornerDue (side r s : ℕ) (map₀ out₀ map out : List ℕ) (used : ℕ) (sum : ℤ) (x y d : ℕ) : Type 0 where
   pub x-low : x < 512
   pub low : d < 4
   pub before : ℕ
   pub due : before ≢ d
-  pub going : AtEdge side r s map₀ out₀ map out used before (edge (point x y) d)
+  pub going : AtEdge side r s map₀ out₀ map out used before (edge (point x y) d) sum
 
-module _ {side r s : ℕ} {map₀ out₀ map out : List ℕ} {used x y d : ℕ} (ready : Ready side r s map₀ out₀) (w : CornerDue side r s map₀ out₀ map out used x y d) where
+module _ {side r s : ℕ} {map₀ out₀ map out : List ℕ} {used x y d : ℕ} {sum : ℤ} (ready : Ready side r s map₀ out₀)
+    (w : CornerDue side r s map₀ out₀ map out used sum x y d) where
   corner-due : w .before ≢ digit (edge (point x y) d)
   corner-due h = w .due (h ∙ digit-edge (point x y) d (w .low))
 
@@ -246,13 +295,26 @@ unfoldable pub leftAfter : ℕ → ℕ → List ℕ → ℕ → ℕ → ℕ → 
 unfolding rest step edge point mapAt
 leftAfter side s map x y d = length (rest (mapAt side map) s (step (mapAt side map) (edge (point x y) d)))
 
--- After one turn of the loop, before the test for the start (column, row).
-pub record OneCornerMore (side r column row : ℕ) (map₀ out₀ map out : List ℕ) (used x y d x′ y′ d′ : ℕ) : Type 0 where
+-- The area with what the run from (x, y) to the row y′ adds.
+abbrev pub withLeg : ℤ → ℕ → ℕ → ℕ → ℤ
+withLeg sum x y y′ = sum +ℤ legArea x y y′
+
+no-leg : (sum : ℤ) (x y y′ : ℕ) → y′ ≡ y → sum ≡ withLeg sum x y y′
+unfolding legArea
+no-leg sum x y y′ h =
+    sym (ap (λ z. withLeg sum x y z) h ∙ ap (λ z. sum +ℤ pos x *ℤ z) (+ℤ-invr (pos y)) ∙ ap (λ z. sum +ℤ z) (*ℤ-zero (pos x)) ∙ +ℤ-idr sum)
+
+-- After one run, before any test for the start (column, row): `more` is the area then.
+pub record OneCornerMore (side r column row : ℕ) (map₀ out₀ map out : List ℕ) (used : ℕ) (more : ℤ) (x y d x′ y′ d′ : ℕ) : Type 0 where
   pub low : 4 * (512 * y′ + x′) + d′ < 1048576
   pub long : length map ≡ length map₀
   pub wide : length out ≡ length out₀
-  pub ends : 4 * (512 * y′ + x′) + d′ ≡ 4 * (512 * row + column) → CycleWalked side r (edge (point column row) 0) map₀ out₀ map out used
-  pub again : 4 * (512 * y′ + x′) + d′ ≢ 4 * (512 * row + column) → CornerDue side r (edge (point column row) 0) map₀ out₀ map out used x′ y′ d′
+  pub size : natAbs more ≤ areaBound
+  pub level : d % 2 ≡ 0 → y′ ≡ y
+  pub ends : {sum′ : ℤ} → sum′ ≡ more → 4 * (512 * y′ + x′) + d′ ≡ 4 * (512 * row + column)
+      → CycleWalked side r (edge (point column row) 0) map₀ out₀ map out used sum′
+  pub again : {sum′ : ℤ} → sum′ ≡ more → 4 * (512 * y′ + x′) + d′ ≢ 4 * (512 * row + column)
+      → CornerDue side r (edge (point column row) 0) map₀ out₀ map out used sum′ x′ y′ d′
   pub shorter : 4 * (512 * y′ + x′) + d′ ≢ 4 * (512 * row + column) → leftAfter side (edge (point column row) 0) map₀ x′ y′ d′ < leftAfter side (edge (point column row) 0) map₀ x y d
 
 at-start : (column row x y d : ℕ) → 4 * (512 * y + x) + d ≡ 4 * (512 * row + column) → edge (point x y) d ≡ edge (point column row) 0
@@ -264,32 +326,58 @@ unfolding edge point
 not-at-start column row x y d n h = n (omega arith)
 
 module _ {side r : ℕ} (column row : ℕ) {map₀ out₀ : List ℕ} (ready : Ready side r (edge (point column row) 0) map₀ out₀) where
-  pub due-at-start : column < 512 → CornerDue side r (edge (point column row) 0) map₀ out₀ map₀ out₀ 0 column row 0
+  pub due-at-start : column < 512 → CornerDue side r (edge (point column row) 0) map₀ out₀ map₀ out₀ 0 (pos 0) column row 0
   due-at-start h = record { x-low = h; low = omega arith; before = 4; due = omega arith; going = begin ready }
 
   pub start-low : column < 512 → Way column row 0
   start-low h = way (mapAt side map₀) (at-margin side map₀ (ready .square .small)) r column row 0 h (omega arith) (ready .on-region)
 
-  module _ {map out : List ℕ} {used x y d : ℕ} (w : CornerDue side r (edge (point column row) 0) map₀ out₀ map out used x y d) where
-    pub one-corner-more : {map′ : List ℕ} {x′ y′ d′ : ℕ} → Gone side r map x y d map′ x′ y′ d′
-        → OneCornerMore side r column row map₀ out₀ map′ (set out used (point x y)) (used + 1) x y d x′ y′ d′
+  module _ {map out : List ℕ} {used x y d : ℕ} {sum : ℤ} (w : CornerDue side r (edge (point column row) 0) map₀ out₀ map out used sum x y d) where
+    pub one-corner-more : {map′ : List ℕ} {x′ y′ d′ : ℕ} (used′ : ℕ) → used + 1 ≡ used′ → Gone side r map x y d map′ x′ y′ d′
+        → OneCornerMore side r column row map₀ out₀ map′ (set out used (point x y)) used′ (withLeg sum x y y′) x y d x′ y′ d′
     unfolding leftAfter
-    one-corner-more {map′} {x′} {y′} {d′} gone =
-        let t : Through ready map′ (set out used (point x y)) (used + 1) (digit (edge (point x y) d)) (edge (point x y) d) (edge (point x′ y′) d′) =
-        through ready (subst (λ m. Straight side r m map′ (edge (point x′ y′) d′) map (edge (point x y) d)) (w .going .same-map) (gone .straight)) refl
-        (subst (λ p. AtEdge side r (edge (point column row) 0) map₀ out₀ map (set out used p) (used + 1) (digit (edge (point x y) d)) (edge (point x y) d))
-        (tail-edge (point x y) d (w .low)) (push ready (w .going) (corner-due ready w))) in
+    one-corner-more {map′} {x′} {y′} {d′} used′ one gone =
+        let here : ℕ = edge (point x y) d in
+        let there : ℕ = edge (point x′ y′) d′ in
+        let t : Through ready map′ (set out used (point x y)) used′ (digit here) here there sum =
+        through ready (subst (λ m. Straight side r m map′ there map here) (w .going .same-map) (gone .straight)) refl
+        (subst₂ (λ p k. AtEdge side r (edge (point column row) 0) map₀ out₀ map (set out used p) k (digit here) here sum)
+        (tail-edge (point x y) d (w .low)) one (push ready (w .going) (corner-due ready w))) in
+        let leg-here : legBetween (tail here) (tail there) ≡ legArea x y y′ =
+        ap₂ legBetween (tail-edge (point x y) d (w .low)) (tail-edge (point x′ y′) d′ (gone .low))
+        ∙ ap₂ (λ (a b : ℕ). legArea a b (yOf (point x′ y′))) (x-of-point x y (w .x-low)) (y-of-point x y (w .x-low))
+        ∙ ap (legArea x y) (y-of-point x′ y′ (omega (arith, gone .x-low))) in
+        let passed : (sum′ : ℤ) → sum′ ≡ withLeg sum x y y′
+        → PastEdge side r (edge (point column row) 0) map₀ out₀ map′ (set out used (point x y)) used′ (digit here) there sum′ =
+        λ sum′ e. subst (PastEdge side r (edge (point column row) 0) map₀ out₀ map′ (set out used (point x y)) used′ (digit here) there)
+        (ap (λ z. sum +ℤ z) leg-here ∙ sym e) (t .passed) in
         record {
           low = omega (arith, gone .x-low, gone .y-low, gone .low);
           long = t .passed .long;
           wide = t .passed .wide;
-          ends = λ h. finish ready (t .passed) (at-start column row x′ y′ d′ h);
-          again = λ n. record {
+          size = sum-size ready (passed (withLeg sum x y y′) refl);
+          level = λ h. sym (y-of-point x′ y′ (omega (arith, gone .x-low))) ∙ sym (ap yOf (tail-edge (point x′ y′) d′ (gone .low)))
+              ∙ t .aligned .row (ap (λ (o : ℕ). o % 2) (digit-edge (point x y) d (w .low)) ∙ h) ∙ ap yOf (tail-edge (point x y) d (w .low)) ∙ y-of-point x y (w .x-low);
+          ends = λ {sum′} e h. finish ready (passed sum′ e) (at-start column row x′ y′ d′ h);
+          again = λ {sum′} e n. record {
             x-low = omega (arith, gone .x-low);
             low = gone .low;
-            before = digit (edge (point x y) d);
+            before = digit here;
             due = λ h. t .turned (h ∙ sym (digit-edge (point x′ y′) d′ (gone .low)));
-            going = again ready (t .passed) (not-at-start column row x′ y′ d′ n);
+            going = again ready (passed sum′ e) (not-at-start column row x′ y′ d′ n);
           };
           shorter = λ n. t .shorter (not-at-start column row x′ y′ d′ n);
         }
+
+    -- After the run along a row the start, an eastward edge, is not reached: a corner is due, where a run along a column begins.
+    pub record ColumnDue (map′ : List ℕ) (x′ y′ d′ : ℕ) : Type 0 where
+      pub odd : d′ % 2 ≡ 1
+      pub due : CornerDue side r (edge (point column row) 0) map₀ out₀ map′ (set out used (point x y)) (used + 1) sum x′ y′ d′
+      pub nearer : leftAfter side (edge (point column row) 0) map₀ x′ y′ d′ < leftAfter side (edge (point column row) 0) map₀ x y d
+
+    pub row-done : {map′ : List ℕ} {x′ y′ d′ : ℕ} → d % 2 ≡ 0 → Gone side r map x y d map′ x′ y′ d′ → ColumnDue map′ x′ y′ d′
+    row-done {map′} {x′} {y′} {d′} even gone =
+        let t = one-corner-more (used + 1) refl gone in
+        let odd : d′ % 2 ≡ 1 = omega (arith, gone .turned) in
+        let elsewhere : 4 * (512 * y′ + x′) + d′ ≢ 4 * (512 * row + column) = λ h. omega arith in
+        record { odd = odd; due = t .again (no-leg sum x y y′ (t .level even)) elsewhere; nearer = t .shorter elsewhere }

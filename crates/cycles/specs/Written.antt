@@ -6,6 +6,7 @@ use Prim.Native.Nat.{ℕ, suc, _+_, _*_, _/_, _%_, _^_, _≤_, _<_}
 use native.Mathlib.Omega.{arith}
 use lib.Arith.{digits-lt}
 use lib.ListN.{length, getD}
+use lib.IntN.{ℤ}
 use Rattle.sequences.specs.Over.{over}
 use Rattle.sequences.specs.Powers.{square-of-side}
 use Rattle.interleaving.specs.Codes.{code, row}
@@ -15,6 +16,7 @@ use Rattle.quadtree.specs.Raster.{place}
 use Rattle.quadtree.specs.Orders.{place-of-code, code-of-place}
 use Rattle.lattice.specs.Directions.{point, xOf, yOf, edge, tail, digit}
 use Rattle.lattice.specs.Walks.{lastOf, corners}
+use Rattle.lattice.specs.Area.{area}
 use Rattle.orbits.specs.Members.{In}
 use Rattle.grid.specs.Map.{regionAt}
 use Rattle.grid.specs.Margins.{Margin}
@@ -120,7 +122,7 @@ module _ {n x y : ℕ} {map out : List ℕ} (h : StartsHere n map out x y) where
       (λ e i. subst₂ (λ a r. Edge a r e) (sym same-map) (sym region-here) (ring m g region s (h .starts .north) .edges e i))
 
   -- What the walk leaves is the promise.
-  module _ {map′ out′ : List ℕ} {k : ℕ} (w : CycleWalked (2 ^ n) entry-here (edge (point x y) 0) map out map′ out′ k) where
+  module _ {map′ out′ : List ℕ} {k : ℕ} {sum : ℤ} (w : CycleWalked (2 ^ n) entry-here (edge (point x y) 0) map out map′ out′ k sum) where
     its-marks : map′ ≡ marks (2 ^ n) entry-here edges map
     its-marks = w .marked ∙ ap (λ es. marks (2 ^ n) entry-here es map) its-edges
 
@@ -166,10 +168,12 @@ module _ {n x y : ℕ} {map out : List ℕ} (h : StartsHere n map out x y) where
             subst (λ j. markBit ≤ getD (marks (2 ^ n) entry-here edges map) j 0) (spot-of-north n d (h .small))
             (marks-set held-here (northSide n d) i (north-digit n d))
 
-    pub cycle-written : CycleWritten n map out c map′ out′ k
+    pub cycle-written : CycleWritten n map out c map′ out′ k sum
     cycle-written = record {
       count = w .count ∙ ap length its-corners;
       list = w .list ∙ ap (λ l. over l out) its-corners;
+      its-area = w .its-area ∙ ap area its-edges;
+      area-low = w .area-low;
       in-map = all-marks;
       mapped = record {
         long = omega (arith, h .mapped .long, long-as-before);
@@ -212,6 +216,7 @@ module _ {n x y : ℕ} {map out : List ℕ} (h : StartsHere n map out x y) where
     pub ready-to-walk : Ready side (getD map (y * side + x) 0 % markBit) (edge (point x y) 0) map out
     ready-to-walk = subst (λ s. Ready s (getD map (y * s + x) 0 % markBit) (edge (point x y) 0) map out) (sym side-here) ready-here
 
-    pub walk-is-cycle : {map′ out′ : List ℕ} {k : ℕ} → CycleWalked side (getD map (y * side + x) 0 % markBit) (edge (point x y) 0) map out map′ out′ k
-        → CycleWritten n map out c map′ out′ k
-    walk-is-cycle {map′} {out′} {k} w = cycle-written (subst (λ s. CycleWalked s (getD map (y * s + x) 0 % markBit) (edge (point x y) 0) map out map′ out′ k) side-here w)
+    pub walk-is-cycle : {map′ out′ : List ℕ} {k : ℕ} {sum : ℤ}
+        → CycleWalked side (getD map (y * side + x) 0 % markBit) (edge (point x y) 0) map out map′ out′ k sum → CycleWritten n map out c map′ out′ k sum
+    walk-is-cycle {map′} {out′} {k} {sum} w =
+        cycle-written (subst (λ s. CycleWalked s (getD map (y * s + x) 0 % markBit) (edge (point x y) 0) map out map′ out′ k sum) side-here w)

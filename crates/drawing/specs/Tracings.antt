@@ -15,11 +15,11 @@ use Rattle.drawing.specs.Picturing.{Traceable, few-pixels, OutlinesHeld}
 
 module _ {n : ℕ} {cs ls ks text : List ℕ} {before after : Lent} {r : Traced} (a : Traceable n cs ls ks text) (t : Tracing n cs ls ks before after r)
     (for-labels : 4096 ≤ length (before .labelList)) (for-work : 8192 ≤ length (before .workList)) (for-owners : 4096 ≤ length (before .ownerList))
-    (for-ends : 4096 ≤ length (before .endList)) (for-corners : 16384 ≤ length (before .cornerList)) where
+    (for-ends : 4096 ≤ length (before .endList)) (for-corners : 16384 ≤ length (before .cornerList)) (for-areas : 4096 ≤ length (before .areaList)) where
   accepted : tracingNumber n cs ls ks before ≡ 0
   accepted =
       let few : 4 ^ n ≤ 4096 = few-pixels (a .low) in
-      sym (none-short n cs ls ks before (a .accepted) (omega (arith, a .few)) (omega arith) (omega arith) (omega arith) (omega arith))
+      sym (none-short n cs ls ks before (a .accepted) (omega (arith, a .few)) (omega arith) (omega arith) (omega arith) (omega arith) (omega arith))
 
   all-written : cyclesWritten n cs ls ks before ≡ imageOutlines n (paint (blocks cs ls ks))
   unfolding cyclesWritten outlinesOf

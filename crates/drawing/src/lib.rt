@@ -16,6 +16,7 @@ fn write_outlines(n: u32, codes: &[u32], levels: &[u8], colours: &[u16], text: &
     let mut owners = [0u32; 4096];
     let mut ends = [0u32; 4096];
     let mut corners = [0u32; 16384];
+    let mut areas = [0i32; 4096];
     let traced = tracing::trace(
         n,
         codes,
@@ -26,6 +27,7 @@ fn write_outlines(n: u32, codes: &[u32], levels: &[u8], colours: &[u16], text: &
         &mut owners,
         &mut ends,
         &mut corners,
+        &mut areas,
     );
     lines::write(&owners, &ends, &corners, traced.cycles, text)
 }

@@ -203,10 +203,11 @@ pub extern "C" fn nettlestair_trace(
     owners: &mut [u32],
     ends: &mut [u32],
     corners: &mut [u32],
+    areas: &mut [i32],
 ) -> Traced
     ensures { λ r. ⌜ Tracing n (now (codes .entry)) (now (levels .entry)) (now (colours .entry))
-        (lent (now (labels .entry)) (now (work .entry)) (now (owners .entry)) (now (ends .entry)) (now (corners .entry)))
-        (lent (now (labels .exit)) (now (work .exit)) (now (owners .exit)) (now (ends .exit)) (now (corners .exit)))
+        (lent (now (labels .entry)) (now (work .entry)) (now (owners .entry)) (now (ends .entry)) (now (corners .entry)) (now (areas .entry)))
+        (lent (now (labels .exit)) (now (work .exit)) (now (owners .exit)) (now (ends .exit)) (now (corners .exit)) (now (areas .exit)))
         (record { number = r .number; regions = r .regions; cycles = r .cycles; corners = r .corners }) ⌝ }
 {
     let traced = tracing::trace(
@@ -219,6 +220,7 @@ pub extern "C" fn nettlestair_trace(
         owners,
         ends,
         corners,
+        areas,
     );
     Traced {
         number: traced.number,

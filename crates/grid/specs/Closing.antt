@@ -72,7 +72,7 @@ module _ (m : ℕ → ℕ → ℕ) (margin : Margin m) (r : ℕ) where
   side-on-grid p (suc (suc (suc zero))) pos s = refl
   side-on-grid p (suc (suc (suc (suc d)))) pos s = no-digit d (s .digit-below)
 
-  edge-on-grid : (e : ℕ) → Edge m r e → OnGrid (digit e) 1 (tail e)
+  pub edge-on-grid : (e : ℕ) → Edge m r e → OnGrid (digit e) 1 (tail e)
   edge-on-grid e h = side-on-grid (tail e) (digit e) (h .a-region) (h .side)
 
   -- The steps form a walk.

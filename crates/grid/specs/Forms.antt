@@ -17,6 +17,7 @@ use Rattle.lattice.specs.Walks.{turns, lastOf, corners}
 use Rattle.lattice.specs.Straight.{far, OnGrid, far-step, far-one, on-grid-more}
 use Rattle.lattice.specs.Corners.{Walk, turns-on, turns-turn}
 use Rattle.lattice.specs.CycleForm.{inside, allInside, along, byTurns, eastward, steps, cycleForm, FormParts, from-parts, along-x-says, along-y-says, says-along-x, says-along-y, says-inside}
+use Rattle.lattice.specs.Forms.{turn-axis}
 use Rattle.orbits.specs.Members.{In, in-first, in-later}
 use Rattle.orbits.specs.Orbits.{walk}
 use Rattle.grid.specs.Map.{regionAt}
@@ -41,31 +42,6 @@ along-far (suc zero) k p h pos r = says-along-y p (p - 512 * k) (record { same-c
 along-far (suc (suc zero)) k p h pos r = says-along-x p (p - k) (record { same-row = omega arith; moves = omega arith })
 along-far (suc (suc (suc zero))) k p h pos r = says-along-y p (p + 512 * k) (record { same-column = omega arith; moves = omega arith })
 along-far (suc (suc (suc (suc d)))) k p h pos r = no-digit d h
-
--- A turn that does not go straight back changes the axis.
-other-axis : (d o : ℕ) → d < 4 → o < 4 → d ≢ o → o ≢ opposite d → isEven o ≡ not (isEven d)
-unfolding isEven opposite
-other-axis zero zero h k n b = absurd (n refl)
-other-axis zero (suc zero) h k n b = refl
-other-axis zero (suc (suc zero)) h k n b = absurd (b refl)
-other-axis zero (suc (suc (suc zero))) h k n b = refl
-other-axis (suc zero) zero h k n b = refl
-other-axis (suc zero) (suc zero) h k n b = absurd (n refl)
-other-axis (suc zero) (suc (suc zero)) h k n b = refl
-other-axis (suc zero) (suc (suc (suc zero))) h k n b = absurd (b refl)
-other-axis (suc (suc zero)) zero h k n b = absurd (b refl)
-other-axis (suc (suc zero)) (suc zero) h k n b = refl
-other-axis (suc (suc zero)) (suc (suc zero)) h k n b = absurd (n refl)
-other-axis (suc (suc zero)) (suc (suc (suc zero))) h k n b = refl
-other-axis (suc (suc (suc zero))) zero h k n b = refl
-other-axis (suc (suc (suc zero))) (suc zero) h k n b = absurd (b refl)
-other-axis (suc (suc (suc zero))) (suc (suc zero)) h k n b = refl
-other-axis (suc (suc (suc zero))) (suc (suc (suc zero))) h k n b = absurd (n refl)
-other-axis (suc (suc (suc (suc d)))) o h k n b = no-digit d h
-other-axis zero (suc (suc (suc (suc o)))) h k n b = no-digit o k
-other-axis (suc zero) (suc (suc (suc (suc o)))) h k n b = no-digit o k
-other-axis (suc (suc zero)) (suc (suc (suc (suc o)))) h k n b = no-digit o k
-other-axis (suc (suc (suc zero))) (suc (suc (suc (suc o)))) h k n b = no-digit o k
 
 -- No edge of the walk goes straight back; b is the edge before the first.
 unfoldable pub NeverBack : ℕ → List ℕ → Type 0
@@ -103,7 +79,7 @@ turns-alternate (e ∷ es) b k p close g last =
         ∙ ap (λ d. byTurns (isEven d) p (turns d es) close) h ∙ ih (suc k) p (one-more b k p e es close h g)
     pick (no h) ih (pos, r, w, f) =
         let here : along (isEven (digit b)) p (tail e) ≡ true = subst (λ q. along (isEven (digit b)) p q ≡ true) (sym (w .0)) (along-far (digit b) k p (digit-below-four b) pos r) in
-        let axis : isEven (digit e) ≡ not (isEven (digit b)) = other-axis (digit b) (digit e) (digit-below-four b) (digit-below-four e) h (f .0) in
+        let axis : isEven (digit e) ≡ not (isEven (digit b)) = turn-axis (digit b) (digit e) (digit-below-four b) (digit-below-four e) h (f .0) in
         ap (λ (t : List ℕ). byTurns (isEven (digit b)) p t close) (turns-turn (digit b) e es h)
         ∙ by-turns-step (isEven (digit b)) p (tail e) (turns (digit e) es) close here
         ∙ ap (λ x. byTurns x (tail e) (turns (digit e) es) close) (sym axis) ∙ ih 1 (tail e) (another b k p e es close (pos, r, w, f))

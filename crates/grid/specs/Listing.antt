@@ -1,13 +1,15 @@
--- The listing of all cycles: their order, owners, ends and corners.
+-- The listing of all cycles: their order, owners, ends, corners and areas.
 use mathlib.Core.Path.{_≡_, refl}
 use mathlib.Core.Bool.{Bool, true, false}
 use mathlib.Core.List.{List, [], _∷_, _++_, map, flatMap}
 use Prim.Native.Nat.{ℕ, zero, suc, _+_, _^_}
 use lib.ListN.{length, getD}
+use lib.IntN.{ℤ, pos, negsuc}
 use lib.Dec.{eqb}
 use Rattle.sequences.specs.Ranges.{range}
 use Rattle.lattice.specs.Directions.{point}
-use Rattle.lattice.specs.Walks.{corners}
+use Rattle.lattice.specs.Walks.{outline, corners}
+use Rattle.lattice.specs.Area.{area}
 use Rattle.grid.specs.Figures.{figure5a, figure5b}
 use Rattle.grid.specs.Cycles.{cycle, isStart}
 
@@ -70,14 +72,21 @@ unfoldable pub allCorners : List Cycle → List ℕ
 allCorners [] = []
 allCorners (c ∷ cs) = c .points ++ allCorners cs
 
--- Figure 5(a): the hole of region 0 starts at its eastward edge, from (1, 3).
+-- "Each cycle gets a signed 32-bit area .. It stands in a fourth output list next to owner, end and corners" (document 02, request c).
+unfoldable pub areas : List Cycle → List ℤ
+unfolding area outline
+areas [] = []
+areas (c ∷ cs) = area (outline (c .points)) ∷ areas cs
+
+-- Figure 5(a): the hole of region 0 starts at its eastward edge, from (1, 3); its area is below 0.
 figure-5a : (owners (listing 2 figure5a 2) ≡ 0 ∷ 0 ∷ 1 ∷ []) × (ends (listing 2 figure5a 2) ≡ 4 ∷ 8 ∷ 12 ∷ [])
     × (allCorners (listing 2 figure5a 2)
     ≡ point 0 0 ∷ point 4 0 ∷ point 4 4 ∷ point 0 4
     ∷ point 1 3 ∷ point 3 3 ∷ point 3 1 ∷ point 1 1
     ∷ point 1 1 ∷ point 3 1 ∷ point 3 3 ∷ point 1 3 ∷ [])
-unfolding owners ends allCorners listing figure5a point
-figure-5a = (refl, refl, refl)
+    × (areas (listing 2 figure5a 2) ≡ pos 16 ∷ negsuc 3 ∷ pos 4 ∷ [])
+unfolding owners ends allCorners areas listing figure5a point
+figure-5a = (refl, refl, refl, refl)
 
 -- Figure 5(b): the outline of region 0 meets itself at (2, 2) and turns right there.
 figure-5b : (owners (listing 2 figure5b 3) ≡ 0 ∷ 1 ∷ 2 ∷ []) × (ends (listing 2 figure5b 3) ≡ 10 ∷ 14 ∷ 18 ∷ [])
@@ -85,8 +94,9 @@ figure-5b : (owners (listing 2 figure5b 3) ≡ 0 ∷ 1 ∷ 2 ∷ []) × (ends (l
     ≡ point 0 0 ∷ point 4 0 ∷ point 4 2 ∷ point 2 2 ∷ point 2 1 ∷ point 1 1 ∷ point 1 2 ∷ point 2 2 ∷ point 2 4 ∷ point 0 4
     ∷ point 1 1 ∷ point 2 1 ∷ point 2 2 ∷ point 1 2
     ∷ point 2 2 ∷ point 4 2 ∷ point 4 4 ∷ point 2 4 ∷ [])
-unfolding owners ends allCorners listing figure5b point
-figure-5b = (refl, refl, refl)
+    × (areas (listing 2 figure5b 3) ≡ pos 11 ∷ pos 1 ∷ pos 4 ∷ [])
+unfolding owners ends allCorners areas listing figure5b point
+figure-5b = (refl, refl, refl, refl)
 
 -- The corners of the cycle k of a list.
 unfoldable pub pointsAt : List Cycle → ℕ → List ℕ

@@ -50,7 +50,7 @@ module _ (n : ℕ) (nums : List ℕ) where
       subst (λ z. code n (column n c) y < z) (code-of-coordinates n c (p .inside)) (code-grows-in-y n (column n c) y (row n c) h (row-below n c)) in
       absurd (omega (arith, p .least (code n (column n c) y) (omega (arith, p .inside)) e))
 
-  north-apart : (c : ℕ) → LeastPixel n nums c → (Y : ℕ) → Y ≡ row n c → regionAt n nums (suc (column n c)) Y ≢ suc (getD nums c 0)
+  pub north-apart : (c : ℕ) → LeastPixel n nums c → (Y : ℕ) → Y ≤ row n c → regionAt n nums (suc (column n c)) Y ≢ suc (getD nums c 0)
   unfolding regionAt
   north-apart c p zero q e = let z : ⊥ = omega arith in absurd z
   north-apart c p (suc y) q e =
@@ -64,7 +64,7 @@ module _ (n : ℕ) (nums : List ℕ) (small : n ≤ 8) where
   unfolding cycle
   least-starts c p =
       let north : Edge (regionAt n nums) (suc (getD nums c 0)) (northSide n c) =
-      north-edge n nums small c (p .inside) .1 (λ e. north-apart n nums c p (row n c) refl (sym (corner-north n nums small c) ∙ e)) in
+      north-edge n nums small c (p .inside) .1 (λ e. north-apart n nums c p (row n c) (omega arith) (sym (corner-north n nums small c) ∙ e)) in
       record {
         inside = p .inside;
         north = north;

@@ -17,6 +17,7 @@ use Rattle.grid.specs.East.{edge-bound, iterate-edge}
 -- The cycle through the edge e of the region r, as a list.
 pub record Ring (m : ℕ → ℕ → ℕ) (r e : ℕ) : Type 0 where
   pub size : ℕ
+  pub few : size ≤ edgeLimit
   pub returns : Returns (step m) e size
   pub long : length (cycleFrom m e) ≡ size
   pub walked : cycleFrom m e ≡ walk (step m) size e
@@ -54,6 +55,7 @@ module _ (m : ℕ → ℕ → ℕ) (margin : Margin m) (r : ℕ) where
           let o : (a : ℕ) → On (step m) e a ↔ ((i : ℕ) × (i < k) × (getD (walk (step m) k e) i 0 ≡ a)) = on-list (step m) (back m) (Edge m r) edgeLimit bound closed undo e k h t in
           record {
             size = k;
+            few = l;
             returns = t;
             long = n;
             walked = w;

@@ -4,9 +4,12 @@ use mathlib.Core.List.{List, [], _∷_, _++_}
 use Prim.Native.Nat.{ℕ, zero, suc, _+_, _-_, _≤_, _<_}
 use native.Mathlib.Omega.{arith}
 use lib.ListN.{length, getD, take, drop, length-append, length-drop}
+use lib.IntN.{pos}
 use lib.Seq.{take-append-seam, drop-append-add, drop-append-le, take-append-le}
 use Rattle.sequences.specs.Over.{over, over-inside}
-use Rattle.grid.specs.Listing.{Cycle, owners, endsFrom, ends, allCorners, pointsAt, cornerCount}
+use Rattle.lattice.specs.Walks.{outline}
+use Rattle.lattice.specs.Area.{area}
+use Rattle.grid.specs.Listing.{Cycle, owners, endsFrom, ends, allCorners, areas, pointsAt, cornerCount}
 
 -- "It begins at 0 for k = 0, else at the end of cycle k - 1" (document 01, "Outlines"); `at` stands for 0 where the list is the
 -- rest of a longer one.
@@ -27,6 +30,18 @@ length-ends-from at (c ∷ cs) = ap suc (length-ends-from (at + length (c .point
 pub length-ends : (l : List Cycle) → length (ends l) ≡ length l
 unfolding ends
 length-ends l = length-ends-from 0 l
+
+pub length-areas : (l : List Cycle) → length (areas l) ≡ length l
+unfolding areas
+length-areas [] = refl
+length-areas (c ∷ l) = ap suc (length-areas l)
+
+-- The area of cycle k is that of the walk around its corners.
+pub area-at : (l : List Cycle) (k : ℕ) → k < length l → getD (areas l) k (pos 0) ≡ area (outline (pointsAt l k))
+unfolding areas pointsAt
+area-at [] k h = absurd (omega arith)
+area-at (c ∷ l) zero h = refl
+area-at (c ∷ l) (suc k) h = area-at l k (omega arith)
 
 -- Between which ends the corners of cycle k stand.
 pub record StretchFrom (at : ℕ) (l : List Cycle) (k : ℕ) : Type 0 where

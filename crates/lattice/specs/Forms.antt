@@ -45,7 +45,7 @@ far-along (suc (suc (suc zero))) k c h pos r = rw (even-not 3 refl) (says-along-
 far-along (suc (suc (suc (suc d)))) k c h pos r = absurd (omega arith)
 
 -- A turn that is no reversal changes the axis.
-turn-axis : (d e : ℕ) → d < 4 → e < 4 → d ≢ e → e ≢ opposite d → isEven e ≡ not (isEven d)
+pub turn-axis : (d e : ℕ) → d < 4 → e < 4 → d ≢ e → e ≢ opposite d → isEven e ≡ not (isEven d)
 unfolding opposite
 turn-axis d e h k n m = pick (ℕ-discrete (d % 2) 0)
   where

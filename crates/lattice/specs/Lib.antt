@@ -1,4 +1,4 @@
--- Points, directions, walks, corners and cycle form.
+-- Points, directions, walks, corners, cycle form and areas.
 pub mod Parity
 pub mod Directions
 pub mod Walks
@@ -9,3 +9,4 @@ pub mod Legs
 pub mod Outlines
 pub mod Closing
 pub mod Forms
+pub mod Area

@@ -7,11 +7,20 @@ use Prim.Native.Nat.{ℕ, zero, suc, _%_, _<_}
 use native.Mathlib.Omega.{arith}
 use lib.ListN.{length, length-append}
 use Rattle.sequences.specs.Cases.{and-both, then-both, not-flips}
-use Rattle.lattice.specs.Directions.{move, edge, tail, digit}
+use Rattle.lattice.specs.Directions.{point, xOf, yOf, move, edge, tail, digit}
 use Rattle.lattice.specs.Walks.{run, straight, walkFrom, outline, turns, lastOf, corners}
 use Rattle.lattice.specs.Corners.{turns-on, turns-turn}
 use Rattle.lattice.specs.CycleForm.{inside, allInside, along, byTurns, steps, cycleForm, parts}
 use Rattle.lattice.specs.Legs.{heading, distance, Leg, leg, straight-is}
+
+-- A point and an edge as one number, read back.
+pub x-of-point : (x y : ℕ) → x < 512 → xOf (point x y) ≡ x
+unfolding xOf point
+x-of-point x y h = omega arith
+
+pub y-of-point : (x y : ℕ) → x < 512 → yOf (point x y) ≡ y
+unfolding yOf point
+y-of-point x y h = omega arith
 
 pub tail-edge : (p d : ℕ) → d < 4 → tail (edge p d) ≡ p
 unfolding tail edge

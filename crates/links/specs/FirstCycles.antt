@@ -1,18 +1,20 @@
--- The first cycles of the listing: what they add to the owner, end and corner lists, and that there is room for them.
+-- The first cycles of the listing: what they add to the owner, end, corner and area lists, and that there is room for them.
 use mathlib.Core.Path.{_≡_, refl, sym, ap, ap₂, _∙_}
 use mathlib.Core.List.{List, [], _∷_, _++_, map, flatMap, append-assoc, append-nil}
 use Prim.Native.Nat.{ℕ, zero, suc, _+_, _-_, _*_, _^_, _≤_, _<_}
 use native.Mathlib.Omega.{arith}
 use lib.ListN.{length, take, drop, getD, take-append-drop, length-append, length-map, length-drop}
 use lib.Seq.{take-add, take-all, length-take-le}
+use lib.IntN.{ℤ}
 use Rattle.sequences.specs.Ranges.{range, range-append}
-use Rattle.lattice.specs.Walks.{corners}
+use Rattle.lattice.specs.Walks.{outline, corners}
+use Rattle.lattice.specs.Area.{area}
 use Rattle.orbits.specs.Members.{In, in-first}
 use Rattle.grid.specs.Cycles.{cycle}
-use Rattle.grid.specs.Listing.{starts, startCodes, Cycle, cycleAt, listing, owners, endsFrom, ends, allCorners, cornerCount}
+use Rattle.grid.specs.Listing.{starts, startCodes, Cycle, cycleAt, listing, owners, endsFrom, ends, allCorners, areas, cornerCount}
 use Rattle.grid.specs.Keeping.{in-starts, starts-fit}
 use Rattle.grid.specs.Bounds.{corner-count-fits}
-use Rattle.grid.specs.Stretches.{length-owners, length-ends}
+use Rattle.grid.specs.Stretches.{length-owners, length-ends, length-areas}
 use Rattle.links.specs.Ahead.{allStarts}
 
 -- ---- lists of cycles one after the other
@@ -26,6 +28,11 @@ pub corners-append : (xs ys : List Cycle) → allCorners (xs ++ ys) ≡ allCorne
 unfolding allCorners
 corners-append [] ys = refl
 corners-append (x ∷ xs) ys = ap (λ (l : List ℕ). x .points ++ l) (corners-append xs ys) ∙ sym (append-assoc (x .points) (allCorners xs) (allCorners ys))
+
+pub areas-append : (xs ys : List Cycle) → areas (xs ++ ys) ≡ areas xs ++ areas ys
+unfolding areas
+areas-append [] ys = refl
+areas-append (x ∷ xs) ys = ap (λ (l : List ℤ). area (outline (x .points)) ∷ l) (areas-append xs ys)
 
 ends-from-append : (at : ℕ) (xs ys : List Cycle) → endsFrom at (xs ++ ys) ≡ endsFrom at xs ++ endsFrom (at + length (allCorners xs)) ys
 unfolding endsFrom allCorners
@@ -65,6 +72,9 @@ module _ (n : ℕ) (nums : List ℕ) where
 
   pub length-first-ends : (k : ℕ) → k ≤ length (allStarts n nums) → length (ends (firstCycles n nums k)) ≡ k
   length-first-ends k h = length-ends (firstCycles n nums k) ∙ length-first k h
+
+  pub length-first-areas : (k : ℕ) → k ≤ length (allStarts n nums) → length (areas (firstCycles n nums k)) ≡ k
+  length-first-areas k h = length-areas (firstCycles n nums k) ∙ length-first k h
 
   -- All of them.
   pub first-all : (k : ℕ) → length (allStarts n nums) ≤ k → firstCycles n nums k ≡ listing n nums (4 ^ n)
@@ -129,6 +139,10 @@ module _ (n : ℕ) (nums : List ℕ) where
     corners-more =
         ap allCorners first-more ∙ corners-append (firstCycles n nums k) (cycleAt n nums c ∷ [])
         ∙ ap (λ (l : List ℕ). allCorners (firstCycles n nums k) ++ l) (append-nil (corners (cycle n nums c)))
+
+    pub areas-more : areas (firstCycles n nums (k + 1)) ≡ areas (firstCycles n nums k) ++ (area (outline (corners (cycle n nums c))) ∷ [])
+    unfolding areas cycleAt
+    areas-more = ap areas first-more ∙ areas-append (firstCycles n nums k) (cycleAt n nums c ∷ [])
 
     pub count-more : cornerCount (firstCycles n nums (k + 1)) ≡ cornerCount (firstCycles n nums k) + length (corners (cycle n nums c))
     unfolding cornerCount

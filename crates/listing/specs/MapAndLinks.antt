@@ -20,7 +20,7 @@ use Rattle.starts.specs.Blocks.{topOf, BlockInside}
 use Rattle.listing.specs.Chains.{linkOf, rowsAlong, chainFrom, ChainNext, along-none, along-some}
 
 -- The blocks of three lists that a function was lent, with their labels for colours.
-abbrev pub entryBlocks : LentList → LentList → LentList → List Block
+abbrev pub entryBlocks : LentList ℕ → LentList ℕ → LentList ℕ → List Block
 entryBlocks codes levels labels = blocks (codes .entry .now) (levels .entry .now) (labels .entry .now)
 
 -- A list of blocks with labels, and the state of its listing: the map holds the labels, the links of the blocks stand behind it.

@@ -5,6 +5,7 @@ use mathlib.Core.List.{List}
 use Prim.Native.Nat.{ℕ, _+_, _^_, _≤_, _<_}
 use native.Mathlib.Omega.{arith}
 use lib.ListN.{length, getD}
+use lib.IntN.{ℤ}
 use Rattle.sequences.specs.Powers.{pow4-mono}
 use Rattle.quadtree.specs.Blocks.{Block, blocks, paint}
 use Rattle.components.specs.Holders.{blockAt}
@@ -84,12 +85,12 @@ pub record AllListed (n : ℕ) (bs : List Block) (s₀ s : State) : Type 0 where
   pub listed : Listed n (paint bs) s₀ s
   pub all : firstCycles n (paint bs) (s .cycles) ≡ listing n (paint bs) (4 ^ n)
 
-module _ {n : ℕ} {codes levels labels : List ℕ} {w o e c : List ℕ} (ok : MapAndLinks n codes levels labels (state w o e c noneCounted)) where
+module _ {n : ℕ} {codes levels labels : List ℕ} {w o e c : List ℕ} {a : List ℤ} (ok : MapAndLinks n codes levels labels (state w o e c a noneCounted)) where
   abbrev list : List Block
   list = blocks codes levels labels
 
   abbrev start : State
-  start = state w o e c noneCounted
+  start = state w o e c a noneCounted
 
   pub begin : ListedTo n list start start 0 0
   begin = record { listed = ok .listed; forward = forward-begin (ok .labelled) }

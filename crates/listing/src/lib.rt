@@ -17,17 +17,28 @@ fn list_region(
     owners: &mut [u32],
     ends: &mut [u32],
     corners: &mut [u32],
+    areas: &mut [i32],
 ) -> Counts
-    requires { ⌜ ChainNext n (now codes) (now levels) first (state (now work) (now owners) (now ends) (now corners) counts) ⌝ }
+    requires { ⌜ ChainNext n (now codes) (now levels) first (state (now work) (now owners) (now ends) (now corners) (now areas) counts) ⌝ }
     ensures { λ r. ⌜ ChainListed n (now (codes .entry)) (now (levels .entry)) first
-        (entryState work owners ends corners counts) (exitState work owners ends corners r) ⌝ }
+        (entryState work owners ends corners areas counts) (exitState work owners ends corners areas r) ⌝ }
 {
     let whole = location::pixels(n);
     let mut listed = counts;
     let mut next = first + 1;
     while next != 0 {
         let j = next - 1;
-        listed = list_block(n, codes[j], levels[j], listed, work, owners, ends, corners);
+        listed = list_block(
+            n,
+            codes[j],
+            levels[j],
+            listed,
+            work,
+            owners,
+            ends,
+            corners,
+            areas,
+        );
         next = work[whole + j] as usize;
     }
     listed
@@ -51,11 +62,12 @@ fn list_next(
     owners: &mut [u32],
     ends: &mut [u32],
     corners: &mut [u32],
+    areas: &mut [i32],
 ) -> Reached
     requires { ⌜ ListedBefore n (now codes) (now levels) (now labels) i (reached .regions)
-        (state (now work) (now owners) (now ends) (now corners) (reached .counts)) ⌝ }
+        (state (now work) (now owners) (now ends) (now corners) (now areas) (reached .counts)) ⌝ }
     ensures { λ r. ⌜ ListedAfter n (entryBlocks codes levels labels) i (r .regions)
-        (entryState work owners ends corners (reached .counts)) (exitState work owners ends corners (r .counts)) ⌝ }
+        (entryState work owners ends corners areas (reached .counts)) (exitState work owners ends corners areas (r .counts)) ⌝ }
 {
     if labels[i] != reached.regions {
         return reached;
@@ -70,6 +82,7 @@ fn list_next(
         owners,
         ends,
         corners,
+        areas,
     );
     Reached {
         regions: reached.regions + 1,
@@ -87,11 +100,12 @@ pub fn list_all(
     owners: &mut [u32],
     ends: &mut [u32],
     corners: &mut [u32],
+    areas: &mut [i32],
 ) -> Counts
-    requires { ⌜ MapAndLinks n (now codes) (now levels) (now labels) (state (now work) (now owners) (now ends) (now corners) noneCounted) ⌝ }
+    requires { ⌜ MapAndLinks n (now codes) (now levels) (now labels) (state (now work) (now owners) (now ends) (now corners) (now areas) noneCounted) ⌝ }
     ensures { λ r. ⌜ AllListed n (entryBlocks codes levels labels)
-        (state (now (work .entry)) (now (owners .entry)) (now (ends .entry)) (now (corners .entry)) noneCounted)
-        (state (now (work .exit)) (now (owners .exit)) (now (ends .exit)) (now (corners .exit)) r) ⌝ }
+        (state (now (work .entry)) (now (owners .entry)) (now (ends .entry)) (now (corners .entry)) (now (areas .entry)) noneCounted)
+        (state (now (work .exit)) (now (owners .exit)) (now (ends .exit)) (now (corners .exit)) (now (areas .exit)) r) ⌝ }
 {
     let mut reached = Reached {
         regions: 0,
@@ -113,6 +127,7 @@ pub fn list_all(
             owners,
             ends,
             corners,
+            areas,
         );
         i += 1;
     }

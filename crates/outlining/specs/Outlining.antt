@@ -5,6 +5,7 @@ use Prim.Native.Nat.{ℕ, _+_, _*_, _^_, _≤_, _<_}
 use native.Mathlib.Decide.{decLt}
 use native.Mathlib.Omega.{arith}
 use lib.ListN.{length, getD, replicate, length-replicate, getD-replicate}
+use lib.IntN.{ℤ}
 use lib.Seq.{ext-getD}
 use Rattle.sequences.specs.Fill.{fill, length-fill, fill-inside, fill-beyond}
 use Rattle.sequences.specs.Over.{over, over-none, length-over, over-inside, over-beyond}
@@ -13,7 +14,7 @@ use Rattle.location.specs.Levels.{pixelsOf, pixels-are-power}
 use Rattle.quadtree.specs.Blocks.{Block, blocks, pixels, paint}
 use Rattle.quadtree.specs.Raster.{inRows}
 use Rattle.staircase.specs.FirstBlocks.{all-pixels}
-use Rattle.grid.specs.Listing.{Cycle, listing, owners, ends, allCorners, cycleCount, cornerCount}
+use Rattle.grid.specs.Listing.{Cycle, listing, owners, ends, allCorners, areas, cycleCount, cornerCount}
 use Rattle.links.specs.Linking.{Linkable, PlacesLinked}
 use Rattle.links.specs.Ahead.{marks-none}
 use Rattle.links.specs.FirstCycles.{firstCycles, length-first}
@@ -40,6 +41,7 @@ pub record Outlined (n : ℕ) (bs : List Block) (s₀ s : State) : Type 0 where
   pub in-owners : s .owned ≡ over (owners (listing n (paint bs) (4 ^ n))) (s₀ .owned)
   pub in-ends : s .ended ≡ over (ends (listing n (paint bs) (4 ^ n))) (s₀ .ended)
   pub in-corners : s .points ≡ over (allCorners (listing n (paint bs) (4 ^ n))) (s₀ .points)
+  pub in-areas : s .sums ≡ over (areas (listing n (paint bs) (4 ^ n))) (s₀ .sums)
   pub in-work : s .work ≡ over (replicate (2 * 4 ^ n) 0) (s₀ .work)
   pub cycle-count : s .cycles ≡ cycleCount (listing n (paint bs) (4 ^ n))
   pub corner-count : s .corners ≡ cornerCount (listing n (paint bs) (4 ^ n))
@@ -49,7 +51,8 @@ unfolding pixels
 blocks-at-most-pixels [] = omega arith
 blocks-at-most-pixels (b ∷ bs) = omega (arith, blocks-at-most-pixels bs, pow4-pos (b .level))
 
-module _ {n : ℕ} {codes levels labels work owned ended points : List ℕ} (ok : Outlinable n codes levels labels (state work owned ended points noneCounted)) where
+module _ {n : ℕ} {codes levels labels work owned ended points : List ℕ} {sums : List ℤ}
+    (ok : Outlinable n codes levels labels (state work owned ended points sums noneCounted)) where
   abbrev bs : List Block
   bs = blocks codes levels labels
 
@@ -95,8 +98,8 @@ module _ {n : ℕ} {codes levels labels work owned ended points : List ℕ} (ok 
         filled : MapFilled n (paint (blocks codes levels labels)) linked mapped
         filled = map-filled fillable e
 
-        pub map-and-links : MapAndLinks n codes levels labels (state mapped owned ended points noneCounted)
-        unfolding owners ends allCorners cornerCount firstCycles
+        pub map-and-links : MapAndLinks n codes levels labels (state mapped owned ended points sums noneCounted)
+        unfolding owners ends allCorners areas cornerCount firstCycles
         map-and-links = record {
           labelled = ok .labelled;
           equal = ok .equal;
@@ -106,12 +109,19 @@ module _ {n : ℕ} {codes levels labels work owned ended points : List ℕ} (ok 
           links = λ i h.
               filled .beyond (4 ^ n + i) (omega arith)
               ∙ ap (λ (w : ℕ). getD linked (w + i) 0) (sym whole-is) ∙ l .nexts i h;
-          room = record { small = ok .labelled .small; for-owners = ok .room .for-owners; for-ends = ok .room .for-ends; for-corners = ok .room .for-corners };
+          room = record {
+            small = ok .labelled .small;
+            for-owners = ok .room .for-owners;
+            for-ends = ok .room .for-ends;
+            for-corners = ok .room .for-corners;
+            for-areas = ok .room .for-areas;
+          };
           listed = record {
             few = omega arith;
             in-owners = sym (over-none owned);
             in-ends = sym (over-none ended);
             in-corners = sym (over-none points);
+            in-areas = sym (over-none sums);
             corners-so-far = refl;
             in-work = none-between n nums 0 mapped;
             mapped = filled .mapped;
@@ -122,18 +132,19 @@ module _ {n : ℕ} {codes levels labels work owned ended points : List ℕ} (ok 
           };
         }
 
-        module _ {work′ owned′ ended′ points′ : List ℕ} {counts : Counts}
-            (t : AllListed n (blocks codes levels labels) (state mapped owned ended points noneCounted) (state work′ owned′ ended′ points′ counts)) where
+        module _ {work′ owned′ ended′ points′ : List ℕ} {sums′ : List ℤ} {counts : Counts}
+            (t : AllListed n (blocks codes levels labels) (state mapped owned ended points sums noneCounted) (state work′ owned′ ended′ points′ sums′ counts)) where
           pub clear-room : 0 + (whole + length codes) ≤ length work′
           clear-room = omega (arith, whole-is, few, t .listed .long, filled .same-length, l .long, ok .for-work)
 
           pub outlined : {cleared : List ℕ} → cleared ≡ fill work′ 0 (whole + length codes) 0
-              → Outlined n (blocks codes levels labels) (state work owned ended points noneCounted) (state cleared owned′ ended′ points′ counts)
+              → Outlined n (blocks codes levels labels) (state work owned ended points sums noneCounted) (state cleared owned′ ended′ points′ sums′ counts)
           unfolding cycleCount cornerCount
           outlined {cleared} e = record {
             in-owners = t .listed .in-owners ∙ ap (λ (c : List Cycle). over (owners c) owned) (t .all);
             in-ends = t .listed .in-ends ∙ ap (λ (c : List Cycle). over (ends c) ended) (t .all);
             in-corners = t .listed .in-corners ∙ ap (λ (c : List Cycle). over (allCorners c) points) (t .all);
+            in-areas = t .listed .in-areas ∙ ap (λ (c : List Cycle). over (areas c) sums) (t .all);
             in-work = same;
             cycle-count = sym (length-first n nums (counts .cycles) (t .listed .few)) ∙ ap length (t .all);
             corner-count = t .listed .corners-so-far ∙ ap (λ (c : List Cycle). length (allCorners c)) (t .all);

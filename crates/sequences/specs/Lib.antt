@@ -7,3 +7,5 @@ pub mod Powers
 pub mod Induction
 pub mod Cases
 pub mod Fill
+pub mod Differences
+pub mod SignedBits

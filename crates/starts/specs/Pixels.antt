@@ -6,17 +6,20 @@ use mathlib.Core.List.{List, [], _∷_, _++_}
 use Prim.Native.Nat.{ℕ, _+_, _-_, _*_, _^_, _≤_, _<_}
 use native.Mathlib.Omega.{arith}
 use lib.ListN.{length, take, drop, getD, set, length-drop}
+use lib.IntN.{ℤ}
 use Rattle.sequences.specs.Over.{over, over-push}
 use Rattle.sequences.specs.Powers.{pow4-mono}
 use Rattle.sequences.specs.Tails.{tail-lent, over-tail}
 use Rattle.interleaving.specs.Codes.{code}
 use Rattle.lattice.specs.Walks.{corners}
+use Rattle.lattice.specs.Area.{area}
 use Rattle.grid.specs.Cycles.{cycle, isStart}
-use Rattle.grid.specs.Listing.{keep, owners, ends, allCorners, cornerCount}
+use Rattle.grid.specs.Listing.{keep, owners, ends, allCorners, areas, cornerCount}
 use Rattle.grid.specs.Keeping.{keep-yes, keep-no}
 use Rattle.grid.specs.Starting.{StartAt, start-says, says-start}
+use Rattle.grid.specs.Closing.{sides-of-corners}
 use Rattle.links.specs.Ahead.{allStarts, Ahead, MarksOf, marks-more, start-unmarked, unmarked-starts, here-inside}
-use Rattle.links.specs.FirstCycles.{firstCycles, starts-few, length-first-owners, length-first-ends, corners-room, some-left, first-starts-more, owners-more, ends-more, corners-more, count-more}
+use Rattle.links.specs.FirstCycles.{firstCycles, starts-few, length-first-owners, length-first-ends, length-first-areas, corners-room, some-left, first-starts-more, owners-more, ends-more, corners-more, areas-more, count-more}
 use Rattle.cycles.specs.Mapped.{numsOf, Marked}
 use Rattle.cycles.specs.Promise.{StartsHere, CycleWritten}
 use Rattle.starts.specs.Unmarked.{PixelOf, Unmarked, Tells}
@@ -102,6 +105,9 @@ module _ {n x y : ℕ} {s : State} (ok : PixelNext n x y s) where
     pub ends-below : s .cycles < length (s .ended)
     ends-below = omega (arith, cycles-below, ok .next .room .for-ends)
 
+    pub areas-below : s .cycles < length (s .sums)
+    areas-below = omega (arith, cycles-below, ok .next .room .for-areas)
+
     corners-fit : s .corners + length (corners (cycle n nums (code n x y))) ≤ 4 * 4 ^ n
     corners-fit =
         omega (
@@ -127,12 +133,13 @@ module _ {n x y : ℕ} {s : State} (ok : PixelNext n x y s) where
       room = omega (arith, corners-fit, ok .next .room .for-corners, ap length (tail-lent (s .corners) (s .points)), length-drop (s .corners) (s .points));
     }
 
-    pub cycle-listed : {work′ tail′ : List ℕ} {k v : ℕ} → CycleWritten n (s .work) (midOf (s .corners) (length (s .points) - s .corners) (s .points)) (code n x y) work′ tail′ k → v ≡ r - 1
+    pub cycle-listed : {work′ tail′ : List ℕ} {k v : ℕ} {sum z : ℤ}
+        → CycleWritten n (s .work) (midOf (s .corners) (length (s .points) - s .corners) (s .points)) (code n x y) work′ tail′ k sum → v ≡ r - 1 → z ≡ sum
         → StartsListed n (code n x y ∷ []) s
         (state work′ (set (s .owned) (s .cycles) v) (set (s .ended) (s .cycles) (s .corners + k)) (putMid (s .corners) (length (s .points) - s .corners) (s .points) tail′)
-        (record { cycles = s .cycles + 1; corners = s .corners + k }))
+        (set (s .sums) (s .cycles) z) (record { cycles = s .cycles + 1; corners = s .corners + k }))
     unfolding cornerCount cyclesMarked
-    cycle-listed {work′} {tail′} {k} {v} w e =
+    cycle-listed {work′} {tail′} {k} {v} {sum} {z} w e f =
         let k-is : s .corners + k ≡ cornerCount (firstCycles n nums (s .cycles)) + length (corners (cycle n nums (code n x y))) = omega (arith, w .count, l .corners-so-far) in
         let one : s .cycles + 1 - s .cycles ≡ 1 = omega arith in
         let here : startsBetween n nums (s .cycles) (s .cycles + 1) ≡ code n x y ∷ [] = ap₂ (λ (z : ℕ) (l : List ℕ). take z l) one first-start in
@@ -153,6 +160,12 @@ module _ {n x y : ℕ} {s : State} (ok : PixelNext n x y s) where
             in-corners =
                 over-tail (allCorners (firstCycles n nums (s .cycles))) (corners (cycle n nums (code n x y))) (s .points) (s .points) tail′ (s .corners) (l .corners-so-far) (l .in-corners) (w .list)
                 ∙ ap (λ (o : List ℕ). over o (s .points)) (sym (corners-more n nums (s .cycles) (code n x y) rest first-start));
+            in-areas =
+                ap (λ (o : List ℤ). set o (s .cycles) z) (l .in-areas)
+                ∙ over-push (areas (firstCycles n nums (s .cycles))) (s .sums) z (s .cycles) (sym (length-first-areas n nums (s .cycles) (l .few))) areas-below
+                ∙ ap (λ (o : List ℤ). over o (s .sums))
+                (ap (λ (a : ℤ). areas (firstCycles n nums (s .cycles)) ++ (a ∷ [])) (f ∙ w .its-area ∙ ap area (sym (sides-of-corners n nums small (code n x y) starts)))
+                ∙ sym (areas-more n nums (s .cycles) (code n x y) rest first-start));
             corners-so-far = k-is ∙ sym (count-more n nums (s .cycles) (code n x y) rest first-start);
             in-work = w .in-map ∙ ap (λ (cs : List ℕ). cyclesMarked n cs (s .work)) (sym here);
             mapped = w .mapped;

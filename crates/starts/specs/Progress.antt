@@ -4,53 +4,58 @@ use mathlib.Core.List.{List, [], _∷_, _++_}
 use Prim.Native.Nat.{ℕ, _+_, _-_, _*_, _^_, _≤_}
 use native.Mathlib.Omega.{arith}
 use lib.ListN.{length, take, drop, getD, length-append}
+use lib.IntN.{ℤ}
 use lib.Seq.{take-add, drop-drop}
 use Rattle.sequences.specs.Over.{over, length-over}
 use Rattle.grid.specs.Cycles.{isStart}
-use Rattle.grid.specs.Listing.{keep, owners, ends, allCorners, cornerCount}
+use Rattle.grid.specs.Listing.{keep, owners, ends, allCorners, areas, cornerCount}
 use Rattle.links.specs.OverTwice.{over-twice}
 use Rattle.links.specs.Ahead.{allStarts, Ahead, ahead-first, ahead-after, keep-append, MarksOf}
-use Rattle.links.specs.FirstCycles.{firstCycles, starts-few, length-first-owners, length-first-ends, corners-room, count-grows}
+use Rattle.links.specs.FirstCycles.{firstCycles, starts-few, length-first-owners, length-first-ends, length-first-areas, corners-room, count-grows}
 use Rattle.cycles.specs.Mapped.{numsOf, Mapped, Marked}
 use Rattle.cycles.specs.Promise.{cycleMarked}
 use Rattle.starts.specs.declared.Counts.{Counts}
 use denote.Ref.{RefT}
 use denote.Triple.Both.{Both}
 
--- What is lent and counted while cycles are listed: the work list with the map in front, the owner, end and corner lists, and how many
--- cycles and corners are written.
+-- What is lent and counted while cycles are listed: the work list with the map in front, the owner, end, corner and area lists, and how
+-- many cycles and corners are written.
 pub record State : Type 0 where
   pub work : List ℕ
   pub owned : List ℕ
   pub ended : List ℕ
   pub points : List ℕ
+  pub sums : List ℤ
   pub cycles : ℕ
   pub corners : ℕ
 
-abbrev pub state : List ℕ → List ℕ → List ℕ → List ℕ → Counts → State
-state work owned ended points k = record { work = work; owned = owned; ended = ended; points = points; cycles = k .cycles; corners = k .corners }
+abbrev pub state : List ℕ → List ℕ → List ℕ → List ℕ → List ℤ → Counts → State
+state work owned ended points sums k =
+    record { work = work; owned = owned; ended = ended; points = points; sums = sums; cycles = k .cycles; corners = k .corners }
 
 -- Nothing is written yet.
 abbrev pub noneCounted : Counts
 noneCounted = record { cycles = 0; corners = 0 }
 
 -- A list that a function was lent: as it was at entry, and as it is at exit.
-abbrev pub LentList : Type 0
-LentList = Both (RefT (List ℕ)) (RefT (List ℕ))
+abbrev pub LentList : Type 0 → Type 0
+LentList A = Both (RefT (List A)) (RefT (List A))
 
 -- The lists of a state as a function found them, with the counts that it was given; and as it leaves them, with those that it returns.
-abbrev pub entryState : LentList → LentList → LentList → LentList → Counts → State
-entryState work owned ended points k = state (work .entry .now) (owned .entry .now) (ended .entry .now) (points .entry .now) k
+abbrev pub entryState : LentList ℕ → LentList ℕ → LentList ℕ → LentList ℕ → LentList ℤ → Counts → State
+entryState work owned ended points sums k = state (work .entry .now) (owned .entry .now) (ended .entry .now) (points .entry .now) (sums .entry .now) k
 
-abbrev pub exitState : LentList → LentList → LentList → LentList → Counts → State
-exitState work owned ended points k = state (work .exit .now) (owned .exit .now) (ended .exit .now) (points .exit .now) k
+abbrev pub exitState : LentList ℕ → LentList ℕ → LentList ℕ → LentList ℕ → LentList ℤ → Counts → State
+exitState work owned ended points sums k = state (work .exit .now) (owned .exit .now) (ended .exit .now) (points .exit .now) (sums .exit .now) k
 
--- "Owner and end lists, 4^n each. Corners, 4 times 4^n" (document 01, "When the answer is a number").
+-- "Owner and end lists, 4^n each. Corners, 4 times 4^n" (document 01, "When the answer is a number"); "the area list needs 4^n entries"
+-- (document 02, request c).
 pub record CycleRoom (n : ℕ) (s : State) : Type 0 where
   pub small : n ≤ 8
   pub for-owners : 4 ^ n ≤ length (s .owned)
   pub for-ends : 4 ^ n ≤ length (s .ended)
   pub for-corners : 4 * 4 ^ n ≤ length (s .points)
+  pub for-areas : 4 ^ n ≤ length (s .sums)
 
 -- The map with the marks of the cycles that start at these pixels, one after the other.
 unfoldable pub cyclesMarked : ℕ → List ℕ → List ℕ → List ℕ
@@ -69,6 +74,7 @@ pub record Listed (n : ℕ) (nums : List ℕ) (s₀ s : State) : Type 0 where
   pub in-owners : s .owned ≡ over (owners (firstCycles n nums (s .cycles))) (s₀ .owned)
   pub in-ends : s .ended ≡ over (ends (firstCycles n nums (s .cycles))) (s₀ .ended)
   pub in-corners : s .points ≡ over (allCorners (firstCycles n nums (s .cycles))) (s₀ .points)
+  pub in-areas : s .sums ≡ over (areas (firstCycles n nums (s .cycles))) (s₀ .sums)
   pub corners-so-far : s .corners ≡ cornerCount (firstCycles n nums (s .cycles))
   pub in-work : s .work ≡ cyclesMarked n (startsBetween n nums (s₀ .cycles) (s .cycles)) (s₀ .work)
   pub mapped : Mapped n (s .work)
@@ -107,12 +113,18 @@ module _ {n : ℕ} {nums : List ℕ} {s₀ s : State} (room : CycleRoom n s₀) 
       ap length (l .in-corners)
       ∙ length-over (allCorners (firstCycles n nums (s .cycles))) (s₀ .points) (omega (arith, corners-room n nums (room .small) (s .cycles), room .for-corners))
 
+  pub same-areas : length (s .sums) ≡ length (s₀ .sums)
+  same-areas =
+      ap length (l .in-areas)
+      ∙ length-over (areas (firstCycles n nums (s .cycles))) (s₀ .sums) (omega (arith, length-first-areas n nums (s .cycles) (l .few), l .few, starts-few n nums, room .for-areas))
+
   pub room-after : CycleRoom n s
   room-after = record {
     small = room .small;
     for-owners = omega (arith, same-owners, room .for-owners);
     for-ends = omega (arith, same-ends, room .for-ends);
     for-corners = omega (arith, same-corners, room .for-corners);
+    for-areas = omega (arith, same-areas, room .for-areas);
   }
 
 -- ---- one stretch after the other
@@ -151,6 +163,10 @@ module _ {n : ℕ} {nums : List ℕ} where
         b .in-corners ∙ ap (over (allCorners (firstCycles n nums (s₂ .cycles)))) (a .in-corners)
         ∙ over-twice (allCorners (firstCycles n nums (s₂ .cycles))) (allCorners (firstCycles n nums (s₁ .cycles))) (s₀ .points)
         (count-grows n nums (s₁ .cycles) (s₂ .cycles) h);
+    in-areas =
+        b .in-areas ∙ ap (over (areas (firstCycles n nums (s₂ .cycles)))) (a .in-areas)
+        ∙ over-twice (areas (firstCycles n nums (s₂ .cycles))) (areas (firstCycles n nums (s₁ .cycles))) (s₀ .sums)
+        (omega (arith, length-first-areas n nums (s₁ .cycles) (a .few), length-first-areas n nums (s₂ .cycles) (b .few)));
     corners-so-far = b .corners-so-far;
     in-work =
         b .in-work ∙ ap (cyclesMarked n (startsBetween n nums (s₁ .cycles) (s₂ .cycles))) (a .in-work)
@@ -170,6 +186,7 @@ module _ {n : ℕ} {nums : List ℕ} where
     in-owners = again (owners (firstCycles n nums (s .cycles))) (s .owned) (s₀ .owned) (a .in-owners);
     in-ends = again (ends (firstCycles n nums (s .cycles))) (s .ended) (s₀ .ended) (a .in-ends);
     in-corners = again (allCorners (firstCycles n nums (s .cycles))) (s .points) (s₀ .points) (a .in-corners);
+    in-areas = again (areas (firstCycles n nums (s .cycles))) (s .sums) (s₀ .sums) (a .in-areas);
     corners-so-far = a .corners-so-far;
     in-work = none-between n nums (s .cycles) (s .work);
     mapped = a .mapped;
@@ -179,7 +196,7 @@ module _ {n : ℕ} {nums : List ℕ} where
     beyond = λ j l. refl;
   }
     where
-      again : (new list old : List ℕ) → list ≡ over new old → list ≡ over new list
+      again : {A : Type 0} (new list old : List A) → list ≡ over new old → list ≡ over new list
       again new list old e = e ∙ sym (ap (over new) e ∙ over-twice new new old (omega arith))
 
 module _ {n : ℕ} where

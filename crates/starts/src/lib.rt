@@ -37,7 +37,8 @@ fn unmarked(n: u32, map: &[u32], x: u32, y: u32) -> u32
     here
 }
 
-// Writes the cycle that starts at the pixel (x, y), if one does: its owner, its end, and its corners into the unused rest of the corner list.
+// Writes the cycle that starts at the pixel (x, y), if one does: its owner, its end, its area, and its corners into the unused rest of the
+// corner list.
 fn list_pixel(
     n: u32,
     x: u32,
@@ -47,9 +48,10 @@ fn list_pixel(
     owners: &mut [u32],
     ends: &mut [u32],
     corners: &mut [u32],
+    areas: &mut [i32],
 ) -> Counts
-    requires { ⌜ PixelNext n x y (state (now work) (now owners) (now ends) (now corners) counts) ⌝ }
-    ensures { λ r. ⌜ StartsListed n (code n x y ∷ []) (entryState work owners ends corners counts) (exitState work owners ends corners r) ⌝ }
+    requires { ⌜ PixelNext n x y (state (now work) (now owners) (now ends) (now corners) (now areas) counts) ⌝ }
+    ensures { λ r. ⌜ StartsListed n (code n x y ∷ []) (entryState work owners ends corners areas counts) (exitState work owners ends corners areas r) ⌝ }
 {
     let r = unmarked(n, work, x, y);
     if r == 0 {
@@ -57,12 +59,15 @@ fn list_pixel(
     }
     let cycles = counts.cycles;
     let at = counts.corners;
-    let k = write_cycle(n, work, x, y, &mut corners[at..]);
-    let end = at + k;
+    let walked = write_cycle(n, work, x, y, &mut corners[at..]);
+    let next = cycles + 1;
+    let end = at + walked.corners;
+    let area = walked.area;
     owners[cycles] = r - 1;
     ends[cycles] = end as u32;
+    areas[cycles] = area;
     Counts {
-        cycles: cycles + 1,
+        cycles: next,
         corners: end,
     }
 }
@@ -78,15 +83,16 @@ fn list_row(
     owners: &mut [u32],
     ends: &mut [u32],
     corners: &mut [u32],
+    areas: &mut [i32],
 ) -> Counts
-    requires { ⌜ RowNext n x y width (state (now work) (now owners) (now ends) (now corners) counts) ⌝ }
-    ensures { λ r. ⌜ StartsListed n (rowFrom n y x width) (entryState work owners ends corners counts) (exitState work owners ends corners r) ⌝ }
+    requires { ⌜ RowNext n x y width (state (now work) (now owners) (now ends) (now corners) (now areas) counts) ⌝ }
+    ensures { λ r. ⌜ StartsListed n (rowFrom n y x width) (entryState work owners ends corners areas counts) (exitState work owners ends corners areas r) ⌝ }
 {
     let end = x + width;
     let mut listed = counts;
     let mut i = x;
     while i < end {
-        listed = list_pixel(n, i, y, listed, work, owners, ends, corners);
+        listed = list_pixel(n, i, y, listed, work, owners, ends, corners, areas);
         i += 1;
     }
     listed
@@ -102,14 +108,15 @@ pub fn list_block(
     owners: &mut [u32],
     ends: &mut [u32],
     corners: &mut [u32],
+    areas: &mut [i32],
 ) -> Counts
-    requires { ⌜ BlockNext n code level (state (now work) (now owners) (now ends) (now corners) counts) ⌝ }
+    requires { ⌜ BlockNext n code level (state (now work) (now owners) (now ends) (now corners) (now areas) counts) ⌝ }
     ensures { λ r. ⌜ StartsListed n (topOf n code level)
-        (state (now (work .entry)) (now (owners .entry)) (now (ends .entry)) (now (corners .entry)) counts)
-        (state (now (work .exit)) (now (owners .exit)) (now (ends .exit)) (now (corners .exit)) r) ⌝ }
+        (state (now (work .entry)) (now (owners .entry)) (now (ends .entry)) (now (corners .entry)) (now (areas .entry)) counts)
+        (state (now (work .exit)) (now (owners .exit)) (now (ends .exit)) (now (corners .exit)) (now (areas .exit)) r) ⌝ }
 {
     let x = location::column(code) as u32;
     let y = location::row(code) as u32;
     let width = location::side(level as u32) as u32;
-    list_row(n, x, y, width, counts, work, owners, ends, corners)
+    list_row(n, x, y, width, counts, work, owners, ends, corners, areas)
 }

@@ -4,21 +4,12 @@ use mathlib.Core.Logic.{_≢_}
 use Prim.Native.Nat.{ℕ, zero, suc, _+_, _-_, _/_, _%_, _≤_, _<_}
 use native.Mathlib.Omega.{arith}
 use Rattle.lattice.specs.Directions.{point, xOf, yOf, move, rightOf, leftOf, edge}
-use Rattle.lattice.specs.Outlines.{tail-edge, digit-edge}
+use Rattle.lattice.specs.Outlines.{x-of-point, y-of-point, tail-edge, digit-edge}
 use Rattle.grid.specs.Map.{around}
 use Rattle.grid.specs.Margins.{Margin}
 use Rattle.grid.specs.Steps.{Side, Edge, turn}
 use Rattle.grid.specs.Undoing.{fits, go-right, go-straight, go-left}
 use Rattle.steps.specs.Look.{columnAt, rowAt, around-at}
-
--- A point as y times 512 plus x.
-pub x-of-point : (x y : ℕ) → x < 512 → xOf (point x y) ≡ x
-unfolding xOf point
-x-of-point x y h = omega arith
-
-pub y-of-point : (x y : ℕ) → x < 512 → yOf (point x y) ≡ y
-unfolding yOf point
-y-of-point x y h = omega arith
 
 pub around-point : (m : ℕ → ℕ → ℕ) (x y d : ℕ) → x < 512 → m (columnAt x d) (rowAt y d) ≡ around m (point x y) d
 around-point m x y d h = sym (ap₂ (λ a b. m (columnAt a d) (rowAt b d)) (x-of-point x y h) (y-of-point x y h)) ∙ around-at m (point x y) d

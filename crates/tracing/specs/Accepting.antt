@@ -5,6 +5,7 @@ use mathlib.Core.List.{List}
 use Prim.Native.Nat.{ℕ, _*_, _^_, _≤_}
 use native.Mathlib.Omega.{arith}
 use lib.ListN.{length, getD, replicate, length-replicate, getD-replicate}
+use lib.IntN.{ℤ}
 use lib.Dec.{ltb}
 use Rattle.sequences.specs.Cases.{written-accepted, count-accepted}
 use Rattle.sequences.specs.Over.{over, length-over, over-inside}
@@ -17,7 +18,7 @@ use Rattle.components.specs.Numbered.{number-below-regions}
 use Rattle.regions.specs.Promise.{Numbering, numberingNumber, labelsWritten, zerosWritten, regionsCounted}
 use Rattle.regions.specs.Callers.{refusal-leaves-all}
 use Rattle.regions.specs.declared.Numbered.{Numbered}
-use Rattle.grid.specs.Listing.{Cycle, listing, owners, ends, allCorners, cycleCount, cornerCount}
+use Rattle.grid.specs.Listing.{Cycle, listing, owners, ends, allCorners, areas, cycleCount, cornerCount}
 use Rattle.grid.specs.Bounds.{cycles-fit, corner-count-fits}
 use Rattle.links.specs.OverTwice.{over-twice}
 use Rattle.links.specs.FirstCycles.{all-regions}
@@ -47,12 +48,12 @@ module _ {n : ℕ} {cs ls ks : List ℕ} (b : Lent) (enough : tooShort n (length
   answered = ap (λ (r : Numbered). r .number) (done .answer)
 
   pub numbering-refused : (numbered .number ≡ 0 → ⊥)
-      → Tracing n cs ls ks b (lent labels₁ work₁ (b .ownerList) (b .endList) (b .cornerList)) (record { number = numbered .number; regions = 0; cycles = 0; corners = 0 })
+      → Tracing n cs ls ks b (lent labels₁ work₁ (b .ownerList) (b .endList) (b .cornerList) (b .areaList)) (record { number = numbered .number; regions = 0; cycles = 0; corners = 0 })
   numbering-refused p =
       let left = refusal-leaves-all done (omega arith) in
       let answer : Traced = record { number = numbered .number; regions = 0; cycles = 0; corners = 0 } in
-      subst (λ (l : List ℕ). Tracing n cs ls ks b (lent l work₁ (b .ownerList) (b .endList) (b .cornerList)) answer) (sym (left .1))
-      (subst (λ (w : List ℕ). Tracing n cs ls ks b (lent (b .labelList) w (b .ownerList) (b .endList) (b .cornerList)) answer) (sym (left .2))
+      subst (λ (l : List ℕ). Tracing n cs ls ks b (lent l work₁ (b .ownerList) (b .endList) (b .cornerList) (b .areaList)) answer) (sym (left .1))
+      (subst (λ (w : List ℕ). Tracing n cs ls ks b (lent (b .labelList) w (b .ownerList) (b .endList) (b .cornerList) (b .areaList)) answer) (sym (left .2))
       (refused n cs ls ks b p (answered ∙ same-number)))
 
   module _ (zero-number : numbered .number ≡ 0) where
@@ -86,9 +87,9 @@ module _ {n : ℕ} {cs ls ks : List ℕ} (b : Lent) (enough : tooShort n (length
     zeros-long : length {A = ℕ} (replicate (2 * 4 ^ n) 0) ≡ 2 * 4 ^ n
     zeros-long = length-replicate (2 * 4 ^ n) 0
 
-    pub outlinable : Outlinable n cs ls labels₁ (state work₁ (b .ownerList) (b .endList) (b .cornerList) noneCounted)
+    pub outlinable : Outlinable n cs ls labels₁ (state work₁ (b .ownerList) (b .endList) (b .cornerList) (b .areaList) noneCounted)
     outlinable =
-        subst (λ (l : List ℕ). Outlinable n cs ls l (state work₁ (b .ownerList) (b .endList) (b .cornerList) noneCounted)) (sym labels-are)
+        subst (λ (l : List ℕ). Outlinable n cs ls l (state work₁ (b .ownerList) (b .endList) (b .cornerList) (b .areaList) noneCounted)) (sym labels-are)
         (record {
           labelled = relabelled n cs ls ks (met .accepted) (b .labelList) (met .for-labels);
           equal = number-zero n cs ls ks (met .accepted) .equal-levels;
@@ -103,13 +104,14 @@ module _ {n : ℕ} {cs ls ks : List ℕ} (b : Lent) (enough : tooShort n (length
             for-owners = met .for-owners;
             for-ends = met .for-ends;
             for-corners = met .for-corners;
+            for-areas = met .for-areas;
           };
         })
 
     -- ---- after the listing
 
-    module _ {work₂ owners₂ ends₂ corners₂ : List ℕ} {counts : Counts}
-        (outlined : Outlined n (blocks cs ls labels₁) (state work₁ (b .ownerList) (b .endList) (b .cornerList) noneCounted) (state work₂ owners₂ ends₂ corners₂ counts)) where
+    module _ {work₂ owners₂ ends₂ corners₂ : List ℕ} {areas₂ : List ℤ} {counts : Counts}
+        (outlined : Outlined n (blocks cs ls labels₁) (state work₁ (b .ownerList) (b .endList) (b .cornerList) (b .areaList) noneCounted) (state work₂ owners₂ ends₂ corners₂ areas₂ counts)) where
       cycles-are : listing n (paint (blocks cs ls labels₁)) (4 ^ n) ≡ outlinesOf n cs ls ks
       unfolding outlinesOf
       cycles-are =
@@ -131,7 +133,7 @@ module _ {n : ℕ} {cs ls ks : List ℕ} (b : Lent) (enough : tooShort n (length
       unfolding cyclesWritten
       written = written-accepted (tracingNumber n cs ls ks b) (outlinesOf n cs ls ks) number-is ∙ sym cycles-are
 
-      pub traced : Tracing n cs ls ks b (lent labels₁ work₂ owners₂ ends₂ corners₂)
+      pub traced : Tracing n cs ls ks b (lent labels₁ work₂ owners₂ ends₂ corners₂ areas₂)
           (record { number = 0; regions = numbered .regions; cycles = counts .cycles; corners = counts .corners })
       unfolding labelsLeft zerosLeft regionsListed
       traced = record {
@@ -152,4 +154,5 @@ module _ {n : ℕ} {cs ls ks : List ℕ} (b : Lent) (enough : tooShort n (length
         in-owners = outlined .in-owners ∙ ap (λ (c : List Cycle). over (owners c) (b .ownerList)) (sym written);
         in-ends = outlined .in-ends ∙ ap (λ (c : List Cycle). over (ends c) (b .endList)) (sym written);
         in-corners = outlined .in-corners ∙ ap (λ (c : List Cycle). over (allCorners c) (b .cornerList)) (sym written);
+        in-areas = outlined .in-areas ∙ ap (λ (c : List Cycle). over (areas c) (b .areaList)) (sym written);
       }

@@ -6,35 +6,41 @@ use Prim.Native.Nat.{ℕ, zero, suc, _*_, _^_, _≤_, _<_}
 use native.Mathlib.Decide.{decLt}
 use native.Mathlib.Omega.{arith}
 use lib.ListN.{length, replicate}
+use lib.IntN.{ℤ}
 use lib.Dec.{ltb}
 use borrow.Author.Tests.{lt-ltb, le-ltb}
-use Rattle.sequences.specs.Cases.{when, ifAccepted, first-some, first-none, first-zero, when-yes, when-no, when-zero, or-right, written-refused, countIfAccepted, count-refused}
+use Rattle.sequences.specs.Cases.{first, when, ifAccepted, first-some, first-none, first-zero, when-yes, when-no, when-zero, or-right, written-refused, countIfAccepted, count-refused}
 use Rattle.sequences.specs.Over.{over, over-none}
 use Rattle.quadtree.specs.Blocks.{blocks, paint}
 use Rattle.quadtree.specs.Number.{number, numberWith}
 use Rattle.blocks.specs.Checking.{number-large}
 use Rattle.components.specs.Numbers.{numbers, labels, regions}
-use Rattle.grid.specs.Listing.{Cycle, listing, owners, ends, allCorners, cycleCount, cornerCount}
+use Rattle.grid.specs.Listing.{Cycle, listing, owners, ends, allCorners, areas, cycleCount, cornerCount}
 use Rattle.links.specs.Image.{imageOutlines}
 use Rattle.tracing.specs.declared.Traced.{Traced}
 
--- "tracing is lent these and the owner, end and corner lists": the label and the work list, and those.
+-- "tracing is lent these and the owner, end and corner lists": the label and the work list, and those; "a fourth output list" of areas
+-- (document 02, request c).
 pub record Lent : Type 0 where
   pub labelList : List ℕ
   pub workList : List ℕ
   pub ownerList : List ℕ
   pub endList : List ℕ
   pub cornerList : List ℕ
+  pub areaList : List ℤ
 
-abbrev pub lent : List ℕ → List ℕ → List ℕ → List ℕ → List ℕ → Lent
-lent ls ws os es cs = record { labelList = ls; workList = ws; ownerList = os; endList = es; cornerList = cs }
+abbrev pub lent : List ℕ → List ℕ → List ℕ → List ℕ → List ℕ → List ℤ → Lent
+lent ls ws os es cs zs = record { labelList = ls; workList = ws; ownerList = os; endList = es; cornerList = cs; areaList = zs }
 
--- "Needs: labels, one a block. Owner and end lists, 4^n each. Corners, 4 times 4^n. Work list (32-bit), 2 times 4^n": one of the lists
--- is shorter than its need, for `count` blocks (document 01, "When the answer is a number").
+-- "Needs: labels, one a block. Owner and end lists, 4^n each. Corners, 4 times 4^n. Work list (32-bit), 2 times 4^n" (document 01, "When
+-- the answer is a number"); "the area list needs 4^n entries and joins 8" (document 02, request c): one of the lists is shorter than its
+-- need, for `count` blocks.
 unfoldable pub tooShort : ℕ → ℕ → Lent → Bool
 tooShort n count b =
     ltb (length (b .labelList)) count
-    || (ltb (length (b .workList)) (2 * 4 ^ n) || (ltb (length (b .ownerList)) (4 ^ n) || (ltb (length (b .endList)) (4 ^ n) || ltb (length (b .cornerList)) (4 * 4 ^ n))))
+    || (ltb (length (b .workList)) (2 * 4 ^ n)
+    || (ltb (length (b .ownerList)) (4 ^ n)
+    || (ltb (length (b .endList)) (4 ^ n) || (ltb (length (b .cornerList)) (4 * 4 ^ n) || ltb (length (b .areaList)) (4 ^ n)))))
 
 -- "Block lists: 1, 2, then per block in list order 3, 4, 5, then 6, 7, 8".
 unfoldable pub tracingNumber : ℕ → List ℕ → List ℕ → List ℕ → Lent → ℕ
@@ -81,6 +87,7 @@ pub record Tracing (n : ℕ) (cs ls ks : List ℕ) (before after : Lent) (r : Tr
   pub in-owners : after .ownerList ≡ over (owners (cyclesWritten n cs ls ks before)) (before .ownerList)
   pub in-ends : after .endList ≡ over (ends (cyclesWritten n cs ls ks before)) (before .endList)
   pub in-corners : after .cornerList ≡ over (allCorners (cyclesWritten n cs ls ks before)) (before .cornerList)
+  pub in-areas : after .areaList ≡ over (areas (cyclesWritten n cs ls ks before)) (before .areaList)
 
 -- ---- cause by cause
 
@@ -92,6 +99,7 @@ pub record Needs (n : ℕ) (cs ls ks : List ℕ) (b : Lent) : Type 0 where
   pub for-owners : 4 ^ n ≤ length (b .ownerList)
   pub for-ends : 4 ^ n ≤ length (b .endList)
   pub for-corners : 4 * 4 ^ n ≤ length (b .cornerList)
+  pub for-areas : 4 ^ n ≤ length (b .areaList)
 
 -- Tests one of which holds, or none.
 first-holds : (a b : Bool) → a ≡ true → true ≡ a || b
@@ -137,12 +145,24 @@ module _ (n count : ℕ) (b : Lent) {whole : ℕ} (is : whole ≡ 4 ^ n) where
         too-few-ends h = first-holds (ltb (length (b .endList)) (4 ^ n)) _ (lt-ltb (length (b .endList)) (4 ^ n) (omega (arith, is))) ∙ past-owners _
 
         module _ (e : whole ≤ length (b .endList)) where
-          pub by-corners : ltb (length (b .cornerList)) (4 * whole) ≡ tooShort n count b
+          past-ends : (rest : Bool)
+              → rest ≡ ltb (length (b .labelList)) count || (ltb (length (b .workList)) (2 * 4 ^ n) || (ltb (length (b .ownerList)) (4 ^ n) || (ltb (length (b .endList)) (4 ^ n) || rest)))
+          past-ends rest =
+              none-hold (ltb (length (b .endList)) (4 ^ n)) rest (le-ltb (length (b .endList)) (4 ^ n) (omega (arith, is)))
+              ∙ past-owners (ltb (length (b .endList)) (4 ^ n) || rest)
+
+          pub too-few-corners : length (b .cornerList) < 4 * whole → true ≡ tooShort n count b
           unfolding tooShort
-          by-corners =
-              ap (λ (size : ℕ). ltb (length (b .cornerList)) (4 * size)) is
-              ∙ none-hold (ltb (length (b .endList)) (4 ^ n)) _ (le-ltb (length (b .endList)) (4 ^ n) (omega (arith, is)))
-              ∙ past-owners _
+          too-few-corners h =
+              first-holds (ltb (length (b .cornerList)) (4 * 4 ^ n)) _ (lt-ltb (length (b .cornerList)) (4 * 4 ^ n) (omega (arith, is))) ∙ past-ends _
+
+          module _ (c : 4 * whole ≤ length (b .cornerList)) where
+            pub by-areas : ltb (length (b .areaList)) whole ≡ tooShort n count b
+            unfolding tooShort
+            by-areas =
+                ap (λ (size : ℕ). ltb (length (b .areaList)) size) is
+                ∙ none-hold (ltb (length (b .cornerList)) (4 * 4 ^ n)) _ (le-ltb (length (b .cornerList)) (4 * 4 ^ n) (omega (arith, is)))
+                ∙ past-ends _
 
 module _ (n : ℕ) (cs ls ks : List ℕ) (b : Lent) where
   list-fault : (k : ℕ) → k ≡ number n cs ls ks → (k ≡ 0 → ⊥) → k ≡ tracingNumber n cs ls ks b
@@ -170,23 +190,27 @@ module _ (n : ℕ) (cs ls ks : List ℕ) (b : Lent) where
           ends-short h = short (too-few-ends n (length cs) b refl l w o h)
 
           module _ (e : 4 ^ n ≤ length (b .endList)) where
-            last : ltb (length (b .cornerList)) (4 * 4 ^ n) ≡ tooShort n (length cs) b
-            last = by-corners n (length cs) b refl l w o e
-
             pub corners-short : length (b .cornerList) < 4 * 4 ^ n → 8 ≡ tracingNumber n cs ls ks b
-            corners-short h = short (sym (lt-ltb (length (b .cornerList)) (4 * 4 ^ n) h) ∙ last)
+            corners-short h = short (too-few-corners n (length cs) b refl l w o e h)
 
-            pub none-short : 4 * 4 ^ n ≤ length (b .cornerList) → 0 ≡ tracingNumber n cs ls ks b
-            unfolding tracingNumber numberWith
-            none-short h =
-                sym (first-none (number n cs ls ks) (when (tooShort n (length cs) b) 8) accepted
-                ∙ when-no (tooShort n (length cs) b) 8 (sym last ∙ le-ltb (length (b .cornerList)) (4 * 4 ^ n) h))
+            module _ (c : 4 * 4 ^ n ≤ length (b .cornerList)) where
+              last : ltb (length (b .areaList)) (4 ^ n) ≡ tooShort n (length cs) b
+              last = by-areas n (length cs) b refl l w o e c
+
+              pub areas-short : length (b .areaList) < 4 ^ n → 8 ≡ tracingNumber n cs ls ks b
+              areas-short h = short (sym (lt-ltb (length (b .areaList)) (4 ^ n) h) ∙ last)
+
+              pub none-short : 4 ^ n ≤ length (b .areaList) → 0 ≡ tracingNumber n cs ls ks b
+              unfolding tracingNumber numberWith
+              none-short h =
+                  sym (first-none (number n cs ls ks) (when (tooShort n (length cs) b) 8) accepted
+                  ∙ when-no (tooShort n (length cs) b) 8 (sym last ∙ le-ltb (length (b .areaList)) (4 ^ n) h))
 
   -- Where the number is 0 no cause applies.
   pub needs-met : tracingNumber n cs ls ks b ≡ 0 → Needs n cs ls ks b
   needs-met z =
       pick (decLt (length (b .labelList)) (length cs)) (decLt (length (b .workList)) (2 * 4 ^ n)) (decLt (length (b .ownerList)) (4 ^ n))
-      (decLt (length (b .endList)) (4 ^ n)) (decLt (length (b .cornerList)) (4 * 4 ^ n))
+      (decLt (length (b .endList)) (4 ^ n)) (decLt (length (b .cornerList)) (4 * 4 ^ n)) (decLt (length (b .areaList)) (4 ^ n))
     where
       ok : number n cs ls ks ≡ 0
       ok = from z
@@ -199,24 +223,36 @@ module _ (n : ℕ) (cs ls ks : List ℕ) (b : Lent) where
               pick (suc k) e = absurd (omega (arith, list-fault (suc k) (sym e) (λ y. omega arith)))
 
       pick : Dec (length (b .labelList) < length cs) → Dec (length (b .workList) < 2 * 4 ^ n) → Dec (length (b .ownerList) < 4 ^ n)
-          → Dec (length (b .endList) < 4 ^ n) → Dec (length (b .cornerList) < 4 * 4 ^ n) → Needs n cs ls ks b
-      pick (yes h) w o e c = absurd (omega (arith, labels-short ok h))
-      pick (no l) (yes h) o e c = absurd (omega (arith, work-short ok (omega arith) h))
-      pick (no l) (no w) (yes h) e c = absurd (omega (arith, owners-short ok (omega arith) (omega arith) h))
-      pick (no l) (no w) (no o) (yes h) c = absurd (omega (arith, ends-short ok (omega arith) (omega arith) (omega arith) h))
-      pick (no l) (no w) (no o) (no e) (yes h) = absurd (omega (arith, corners-short ok (omega arith) (omega arith) (omega arith) (omega arith) h))
-      pick (no l) (no w) (no o) (no e) (no c) = record {
+          → Dec (length (b .endList) < 4 ^ n) → Dec (length (b .cornerList) < 4 * 4 ^ n) → Dec (length (b .areaList) < 4 ^ n) → Needs n cs ls ks b
+      pick (yes h) w o e c a = absurd (omega (arith, labels-short ok h))
+      pick (no l) (yes h) o e c a = absurd (omega (arith, work-short ok (omega arith) h))
+      pick (no l) (no w) (yes h) e c a = absurd (omega (arith, owners-short ok (omega arith) (omega arith) h))
+      pick (no l) (no w) (no o) (yes h) c a = absurd (omega (arith, ends-short ok (omega arith) (omega arith) (omega arith) h))
+      pick (no l) (no w) (no o) (no e) (yes h) a = absurd (omega (arith, corners-short ok (omega arith) (omega arith) (omega arith) (omega arith) h))
+      pick (no l) (no w) (no o) (no e) (no c) (yes h) = absurd (omega (arith, areas-short ok (omega arith) (omega arith) (omega arith) (omega arith) (omega arith) h))
+      pick (no l) (no w) (no o) (no e) (no c) (no a) = record {
         accepted = ok;
         for-labels = omega arith;
         for-work = omega arith;
         for-owners = omega arith;
         for-ends = omega arith;
         for-corners = omega arith;
+        for-areas = omega arith;
       }
+
+  -- Where the check finds nothing, 8 is said exactly where a need is not met.
+  pub short-unless-met : number n cs ls ks ≡ 0 → (Needs n cs ls ks b → ⊥) → 8 ≡ tracingNumber n cs ls ks b
+  unfolding tracingNumber numberWith
+  short-unless-met accepted not-met = pick (tooShort n (length cs) b) refl
+    where
+      pick : (t : Bool) → tooShort n (length cs) b ≡ t → 8 ≡ first (number n cs ls ks) (when (tooShort n (length cs) b) 8)
+      pick true e = short accepted (sym e)
+      pick false e =
+          absurd (not-met (needs-met (first-none (number n cs ls ks) (when (tooShort n (length cs) b) 8) accepted ∙ when-no (tooShort n (length cs) b) 8 e)))
 
   -- A refusal returns its number, and counts 0, and leaves all lists.
   pub refused : {k : ℕ} → (k ≡ 0 → ⊥) → k ≡ tracingNumber n cs ls ks b → Tracing n cs ls ks b b (record { number = k; regions = 0; cycles = 0; corners = 0 })
-  unfolding cyclesWritten labelsLeft zerosLeft regionsListed cycleCount cornerCount owners ends allCorners
+  unfolding cyclesWritten labelsLeft zerosLeft regionsListed cycleCount cornerCount owners ends allCorners areas
   refused {k} p e =
       let some : 0 < tracingNumber n cs ls ks b = omega arith in
       let no-cycles : cyclesWritten n cs ls ks b ≡ [] = written-refused (tracingNumber n cs ls ks b) (outlinesOf n cs ls ks) some in
@@ -234,6 +270,7 @@ module _ (n : ℕ) (cs ls ks : List ℕ) (b : Lent) where
         in-owners = sym (ap (λ (c : List Cycle). over (owners c) (b .ownerList)) no-cycles ∙ over-none (b .ownerList));
         in-ends = sym (ap (λ (c : List Cycle). over (ends c) (b .endList)) no-cycles ∙ over-none (b .endList));
         in-corners = sym (ap (λ (c : List Cycle). over (allCorners c) (b .cornerList)) no-cycles ∙ over-none (b .cornerList));
+        in-areas = sym (ap (λ (c : List Cycle). over (areas c) (b .areaList)) no-cycles ∙ over-none (b .areaList));
       }
 
 -- ---- where n is above 8 or a list is too short

@@ -32,10 +32,11 @@ fn short(
     owners: &[u32],
     ends: &[u32],
     corners: &[u32],
+    areas: &[i32],
 ) -> bool
     requires { ⌜ n ≤ 8 ⌝ }
     ensures { λ r. ⌜ r ≡ tooShort n count
-        (lent (now (labels .entry)) (now (work .entry)) (now (owners .entry)) (now (ends .entry)) (now (corners .entry))) ⌝ }
+        (lent (now (labels .entry)) (now (work .entry)) (now (owners .entry)) (now (ends .entry)) (now (corners .entry)) (now (areas .entry))) ⌝ }
 {
     let whole = location::pixels(n);
     if labels.len() < count {
@@ -50,7 +51,10 @@ fn short(
     if ends.len() < whole {
         return true;
     }
-    corners.len() < 4 * whole
+    if corners.len() < 4 * whole {
+        return true;
+    }
+    areas.len() < whole
 }
 
 // The number to refuse with where n is above 8 or one of the lists is too short, 0 where neither is so: 8 comes last, so the check is
@@ -65,14 +69,15 @@ fn unfit(
     owners: &[u32],
     ends: &[u32],
     corners: &[u32],
+    areas: &[i32],
 ) -> u32
     ensures { λ r. ⌜ r ≡ unfitNumber n (now (codes .entry)) (now (levels .entry)) (now (colours .entry))
-        (lent (now (labels .entry)) (now (work .entry)) (now (owners .entry)) (now (ends .entry)) (now (corners .entry))) ⌝ }
+        (lent (now (labels .entry)) (now (work .entry)) (now (owners .entry)) (now (ends .entry)) (now (corners .entry)) (now (areas .entry))) ⌝ }
 {
     if 8 < n {
         return 1;
     }
-    if short(n, codes.len(), labels, work, owners, ends, corners) {
+    if short(n, codes.len(), labels, work, owners, ends, corners, areas) {
         let fault = blocks::check(n, codes, levels, colours);
         if fault != 0 {
             return fault;
@@ -82,7 +87,7 @@ fn unfit(
     0
 }
 
-// The outlines of all regions of a block list: labels, owners, ends and corners, and the counts of regions, cycles and corners. The
+// The outlines of all regions of a block list: labels, owners, ends, corners and areas, and the counts of regions, cycles and corners. The
 // block list is checked once: by the numbering, or before it where a list is too short.
 pub fn trace(
     n: u32,
@@ -94,10 +99,11 @@ pub fn trace(
     owners: &mut [u32],
     ends: &mut [u32],
     corners: &mut [u32],
+    areas: &mut [i32],
 ) -> Traced
     ensures { λ r. ⌜ Tracing n (now (codes .entry)) (now (levels .entry)) (now (colours .entry))
-        (lent (now (labels .entry)) (now (work .entry)) (now (owners .entry)) (now (ends .entry)) (now (corners .entry)))
-        (lent (now (labels .exit)) (now (work .exit)) (now (owners .exit)) (now (ends .exit)) (now (corners .exit))) r ⌝ }
+        (lent (now (labels .entry)) (now (work .entry)) (now (owners .entry)) (now (ends .entry)) (now (corners .entry)) (now (areas .entry)))
+        (lent (now (labels .exit)) (now (work .exit)) (now (owners .exit)) (now (ends .exit)) (now (corners .exit)) (now (areas .exit))) r ⌝ }
 {
     let number = unfit(
         n,
@@ -109,6 +115,7 @@ pub fn trace(
         owners,
         ends,
         corners,
+        areas,
     );
     if number != 0 {
         return refused(number);
@@ -117,7 +124,7 @@ pub fn trace(
     if numbered.number != 0 {
         return refused(numbered.number);
     }
-    let counts = outlining::outline(n, codes, levels, labels, work, owners, ends, corners);
+    let counts = outlining::outline(n, codes, levels, labels, work, owners, ends, corners, areas);
     Traced {
         number: 0,
         regions: numbered.regions,

@@ -1,5 +1,6 @@
 //! The lines that are printed for a picture.
 
+use super::areas::areas;
 use super::orders::in_rows;
 use super::outlines::Outlines;
 use super::paths::svg;
@@ -20,21 +21,33 @@ pub fn paths(regions: &Regions) -> Vec<String> {
 /// refusal prints "refused ", the number and LF only." The number 15 is the programs' alone: there is no bound on the bytes
 /// here.
 pub fn printed(bytes: &[u8]) -> String {
-    text(bytes, |_, samples| samples.to_vec())
+    text(bytes, |_, samples| samples.to_vec(), paths)
 }
 
 /// What "outlines-stored" prints: the same "for a P5 file whose samples stand in block order".
 pub fn printed_stored(bytes: &[u8]) -> String {
-    text(bytes, in_rows)
+    text(bytes, in_rows, paths)
 }
 
-/// The text for a file, with the rows of its samples.
-fn text(bytes: &[u8], rows: fn(u32, &[u16]) -> Vec<u16>) -> String {
+/// What the examples print: one line a cycle, its region, its area and its path data.
+pub fn printed_with_areas(bytes: &[u8]) -> String {
+    text(bytes, |_, samples| samples.to_vec(), cycles)
+}
+
+/// The region, the area and the path data of each cycle.
+fn cycles(regions: &Regions) -> Vec<String> {
+    let outlines = Outlines::of(regions);
+    let areas = areas(&outlines);
+    (0..outlines.len()).map(|k| format!("{} {} {}", outlines.owners[k], areas[k], svg(outlines.cycle(k)))).collect()
+}
+
+/// The text for a file, by the rows of its samples and by the lines of its regions.
+fn text(bytes: &[u8], rows: fn(u32, &[u16]) -> Vec<u16>, lines: fn(&Regions) -> Vec<String>) -> String {
     let picture = read(bytes);
     match picture.number {
         0 => {
             let regions = Regions::of(picture.n, &rows(picture.n, &picture.samples));
-            paths(&regions).iter().map(|path| path.clone() + "\n").collect()
+            lines(&regions).iter().map(|line| line.clone() + "\n").collect()
         }
         number => format!("refused {number}\n"),
     }
@@ -48,6 +61,7 @@ mod tests {
     fn dial_3() {
         let bytes = b"P5 4 4 9 \x01\x01\x01\x01\x01\x02\x02\x01\x01\x02\x02\x01\x01\x01\x01\x01";
         assert_eq!(printed(bytes), "M0 0H4V4H0ZM1 3H3V1H1Z\nM1 1H3V3H1Z\n");
+        assert_eq!(printed_with_areas(bytes), "0 16 M0 0H4V4H0Z\n0 -4 M1 3H3V1H1Z\n1 4 M1 1H3V3H1Z\n");
         assert_eq!(printed(b"P5 1 1 9 "), "refused 13\n");
     }
 

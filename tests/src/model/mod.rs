@@ -1,5 +1,6 @@
 //! A second implementation of document 01, written from its words and apart from the proved code.
 
+pub mod areas;
 pub mod blocks;
 pub mod lines;
 pub mod orders;

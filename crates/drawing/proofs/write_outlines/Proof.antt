@@ -8,10 +8,10 @@ use Rattle.drawing.proofs.write_outlines.Tie as tie
 
 returns : tie.Need-returns
 returns c =
-    let traced = c .before .before .before .before .before .before .before .before .before .before .before .before in
-    let start = traced .before .before .before .before .before .before .before .before .before .before in
+    let traced = c .before .before .before .before .before .before .before .before .before .before .before .before .before in
+    let start = traced .before .before .before .before .before .before .before .before .before .before .before in
     drawn (omega (arith, start .pre .low))
-    (outlined (start .pre) (traced .trace .ensures) (omega arith) (omega arith) (omega arith) (omega arith) (omega arith)) (c .before .before .write .ensures)
+    (outlined (start .pre) (traced .trace .ensures) (omega arith) (omega arith) (omega arith) (omega arith) (omega arith) (omega arith)) (c .before .before .write .ensures)
 
 slice-aggregate-trace : tie.Need-slice-aggregate-trace
 slice-aggregate-trace c = search needs
@@ -28,6 +28,9 @@ slice-aggregate-trace-4 c = search needs
 slice-aggregate-trace-5 : tie.Need-slice-aggregate-trace-5
 slice-aggregate-trace-5 c = search needs
 
+slice-aggregate-trace-6 : tie.Need-slice-aggregate-trace-6
+slice-aggregate-trace-6 c = search needs
+
 trace-requires : tie.Need-trace-requires
 trace-requires c κs = search needs
 
@@ -42,10 +45,10 @@ slice-aggregate-write-3 c = search needs
 
 write-requires : tie.Need-write-requires
 write-requires c κs =
-    let traced = c .before .before .before .before .before .before .before .before .before in
-    let start = traced .before .before .before .before .before .before .before .before .before .before in
+    let traced = c .before .before .before .before .before .before .before .before .before .before in
+    let start = traced .before .before .before .before .before .before .before .before .before .before .before in
     drawable (omega (arith, start .pre .low))
-    (outlined (start .pre) (traced .trace .ensures) (omega arith) (omega arith) (omega arith) (omega arith) (omega arith)) (start .pre .enough)
+    (outlined (start .pre) (traced .trace .ensures) (omega arith) (omega arith) (omega arith) (omega arith) (omega arith) (omega arith)) (start .pre .enough)
 
 same-length : tie.Need-same-length
 same-length c = search needs
@@ -59,6 +62,7 @@ write-outlines-spec =
     slice-aggregate-trace-3
     slice-aggregate-trace-4
     slice-aggregate-trace-5
+    slice-aggregate-trace-6
     trace-requires
     slice-aggregate-write
     slice-aggregate-write-2

@@ -2,7 +2,7 @@
 -- of the list.
 use Rattle.quadtree.specs.Blocks.{blocks}
 use Rattle.listing.specs.MapAndLinks.{blocks-few}
-use Rattle.starts.specs.Progress.{state, same-owners, same-ends, same-corners}
+use Rattle.starts.specs.Progress.{state, same-owners, same-ends, same-corners, same-areas}
 use Rattle.listing.specs.Regions.{ListedTo, begin, listed-before, again, finish}
 use Prim.Native.Nat.{_-_}
 use native.Mathlib.Omega.{arith}
@@ -11,11 +11,11 @@ use Rattle.listing.proofs.list_all.Statement.{statement}
 use Rattle.listing.proofs.list_all.Tie as tie
 
 abbrev Inv-loop : tie.InvT-loop
-Inv-loop n codes levels labels work₀ owners₀ ends₀ corners₀ reached₀ i₀ work owners ends corners reached i =
-    ListedTo n (blocks codes levels labels) (state work₀ owners₀ ends₀ corners₀ (reached₀ .counts)) (state work owners ends corners (reached .counts)) i (reached .regions)
+Inv-loop n codes levels labels work₀ owners₀ ends₀ corners₀ areas₀ reached₀ i₀ work owners ends corners areas reached i =
+    ListedTo n (blocks codes levels labels) (state work₀ owners₀ ends₀ corners₀ areas₀ (reached₀ .counts)) (state work owners ends corners areas (reached .counts)) i (reached .regions)
 
 abbrev μ-loop : tie.MeasureT-loop
-μ-loop n codes levels labels work₀ owners₀ ends₀ corners₀ reached₀ i₀ work owners ends corners reached i =
+μ-loop n codes levels labels work₀ owners₀ ends₀ corners₀ areas₀ reached₀ i₀ work owners ends corners areas reached i =
     length codes - i
 
 -- ---- the places
@@ -23,11 +23,11 @@ abbrev μ-loop : tie.MeasureT-loop
 abbrev entry : tie.After-slice-known4 Inv-loop μ-loop → tie.Start Inv-loop μ-loop
 entry c = c .before .before .before .before .before .before .before
 
-abbrev inside : tie.After-list-next-arg4 Inv-loop μ-loop → tie.In-loop Inv-loop μ-loop
-inside c = c .before .before .before .before
+abbrev inside : tie.After-list-next-arg5 Inv-loop μ-loop → tie.In-loop Inv-loop μ-loop
+inside c = c .before .before .before .before .before
 
-abbrev listed : tie.After-slice-known8 Inv-loop μ-loop → tie.After-list-next Inv-loop μ-loop
-listed c = c .before .before .before .before .before .before .before .before
+abbrev listed : tie.After-areas Inv-loop μ-loop → tie.After-list-next Inv-loop μ-loop
+listed c = c .before .before .before .before .before .before .before .before .before
 
 abbrev past : tie.After-result Inv-loop μ-loop → tie.At-loop Inv-loop μ-loop
 past c = c .before .before
@@ -35,7 +35,7 @@ past c = c .before .before
 abbrev start : tie.In-loop Inv-loop μ-loop → tie.Start Inv-loop μ-loop
 start c = entry (c .before .before)
 
-abbrev turn : tie.After-slice-known8 Inv-loop μ-loop → tie.In-loop Inv-loop μ-loop
+abbrev turn : tie.After-areas Inv-loop μ-loop → tie.In-loop Inv-loop μ-loop
 turn c = inside (listed c .before)
 
 -- ---- the needs
@@ -67,6 +67,9 @@ same-length-3 c = same-ends (entry (past c .before) .pre .room) (past c .loop .i
 same-length-4 : tie.Need-same-length-4 Inv-loop μ-loop
 same-length-4 c = same-corners (entry (past c .before) .pre .room) (past c .loop .inv .listed)
 
+same-length-5 : tie.Need-same-length-5 Inv-loop μ-loop
+same-length-5 c = same-areas (entry (past c .before) .pre .room) (past c .loop .inv .listed)
+
 returns : tie.Need-returns Inv-loop μ-loop
 returns c = finish (entry (past c .before) .pre) (past c .loop .inv) (c .before .loop-test .left)
 
@@ -85,4 +88,5 @@ list-all-spec =
     same-length-2
     same-length-3
     same-length-4
+    same-length-5
     returns)

@@ -14,11 +14,11 @@ entry c = c .before .before .before .before .before .before .before
 abbrev start : tie.After-struct-known → tie.Start
 start c = entry (c .before .before)
 
-abbrev first-block : tie.After-list-region-arg4 → tie.Else1
-first-block c = c .before .before .before .before
+abbrev first-block : tie.After-list-region-arg5 → tie.Else1
+first-block c = c .before .before .before .before .before
 
-abbrev listed : tie.After-slice-known8 → tie.After-list-region
-listed c = c .before .before .before .before .before .before .before .before
+abbrev listed : tie.After-areas → tie.After-list-region
+listed c = c .before .before .before .before .before .before .before .before .before
 
 abbrev taken : tie.After-struct-known2 → tie.Else1
 taken c = first-block (listed (c .before) .before)
@@ -37,8 +37,8 @@ returns c = block-skipped (start (c .before) .pre) (c .if1 .taken)
 list-region-requires : tie.Need-list-region-requires
 list-region-requires c κs = region-next (start (first-block c .before) .pre) (first-block c .if1 .left)
 
-add-t14 : tie.Need-add-t14
-add-t14 c = omega (arith, region-small (start (taken c .before) .pre) (taken c .if1 .left))
+add-t15 : tie.Need-add-t15
+add-t15 c = omega (arith, region-small (start (taken c .before) .pre) (taken c .if1 .left))
 
 same-length : tie.Need-same-length
 same-length c = search needs
@@ -52,6 +52,9 @@ same-length-3 c = search needs
 same-length-4 : tie.Need-same-length-4
 same-length-4 c = search needs
 
+same-length-5 : tie.Need-same-length-5
+same-length-5 c = search needs
+
 returns-2 : tie.Need-returns-2
 returns-2 c = region-listed (start (taken c .before) .pre) (taken c .if1 .left) (listed (c .before) .list-region .ensures)
 
@@ -63,9 +66,10 @@ list-next-spec =
     shared-slice-read-if1
     returns
     list-region-requires
-    add-t14
+    add-t15
     same-length
     same-length-2
     same-length-3
     same-length-4
+    same-length-5
     returns-2)

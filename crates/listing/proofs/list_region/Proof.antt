@@ -1,6 +1,6 @@
 -- `list_region` meets its contract. The loop's invariant: the top rows of the blocks of the chain before next - 1 are done, those from it on
 -- come next; the link of a block leads to the next one. The measure is what is left of the list.
-use Rattle.starts.specs.Progress.{state, same-owners, same-ends, same-corners}
+use Rattle.starts.specs.Progress.{state, same-owners, same-ends, same-corners, same-areas}
 use Rattle.listing.specs.Chains.{ChainTo, chainLeft, first-small, chain-begin, place-now, place-small, chain-block, link-inside, link-small, chain-again, chain-less, chain-finish}
 use mathlib.Core.Path.{refl}
 use Prim.Native.Nat.{_-_, _+_, _≤_}
@@ -10,11 +10,11 @@ use Rattle.listing.proofs.list_region.Statement.{statement}
 use Rattle.listing.proofs.list_region.Tie as tie
 
 abbrev Inv-loop : tie.InvT-loop
-Inv-loop n codes levels first work₀ owners₀ ends₀ corners₀ whole listed₀ next₀ work owners ends corners listed next =
-    ChainTo n codes levels first (state work₀ owners₀ ends₀ corners₀ listed₀) (state work owners ends corners listed) next
+Inv-loop n codes levels first work₀ owners₀ ends₀ corners₀ areas₀ whole listed₀ next₀ work owners ends corners areas listed next =
+    ChainTo n codes levels first (state work₀ owners₀ ends₀ corners₀ areas₀ listed₀) (state work owners ends corners areas listed) next
 
 abbrev μ-loop : tie.MeasureT-loop
-μ-loop n codes levels first work₀ owners₀ ends₀ corners₀ whole listed₀ next₀ work owners ends corners listed next =
+μ-loop n codes levels first work₀ owners₀ ends₀ corners₀ areas₀ whole listed₀ next₀ work owners ends corners areas listed next =
     chainLeft codes next
 
 -- ---- the places
@@ -25,13 +25,13 @@ entry c = c .before .before .before .before .before .before .before
 abbrev start : tie.In-loop Inv-loop μ-loop → tie.Start Inv-loop μ-loop
 start c = entry (c .before .before)
 
-abbrev inside : tie.After-list-block-arg4 Inv-loop μ-loop → tie.In-loop Inv-loop μ-loop
-inside c = c .before .before .before .before .before .before
+abbrev inside : tie.After-list-block-arg5 Inv-loop μ-loop → tie.In-loop Inv-loop μ-loop
+inside c = c .before .before .before .before .before .before .before
 
-abbrev listed : tie.After-slice-known8 Inv-loop μ-loop → tie.After-list-block Inv-loop μ-loop
-listed c = c .before .before .before .before .before .before .before .before
+abbrev listed : tie.After-areas Inv-loop μ-loop → tie.After-list-block Inv-loop μ-loop
+listed c = c .before .before .before .before .before .before .before .before .before
 
-abbrev turn : tie.After-slice-known8 Inv-loop μ-loop → tie.In-loop Inv-loop μ-loop
+abbrev turn : tie.After-areas Inv-loop μ-loop → tie.In-loop Inv-loop μ-loop
 turn c = inside (listed c .before)
 
 -- ---- the needs
@@ -62,7 +62,7 @@ shared-slice-read-list-block-2 c =
 list-block-requires : tie.Need-list-block-requires Inv-loop μ-loop
 list-block-requires c κs = let d = inside c in chain-block (start d .pre) (d .before .loop .inv) (d .loop-test .taken)
 
-small : (c : tie.After-slice-known8 Inv-loop μ-loop) → turn c .before .before .pixels .result + (turn c .before .loop .next - 1) ≤ 131072
+small : (c : tie.After-areas Inv-loop μ-loop) → turn c .before .before .pixels .result + (turn c .before .loop .next - 1) ≤ 131072
 small c = link-small (start (turn c) .pre) (turn c .before .loop .inv) (turn c .loop-test .taken) (turn c .before .before .pixels .ensures)
 
 add-next-2 : tie.Need-add-next-2 Inv-loop μ-loop
@@ -101,6 +101,9 @@ same-length-3 c = same-ends (entry (c .before .before) .pre .next .room) (c .bef
 same-length-4 : tie.Need-same-length-4 Inv-loop μ-loop
 same-length-4 c = same-corners (entry (c .before .before) .pre .next .room) (c .before .loop .inv .done .listed)
 
+same-length-5 : tie.Need-same-length-5 Inv-loop μ-loop
+same-length-5 c = same-areas (entry (c .before .before) .pre .next .room) (c .before .loop .inv .done .listed)
+
 returns : tie.Need-returns Inv-loop μ-loop
 returns c = chain-finish (entry (c .before .before) .pre) (c .before .loop .inv) (c .loop-test .left)
 
@@ -128,4 +131,5 @@ list-region-spec =
     same-length-2
     same-length-3
     same-length-4
+    same-length-5
     returns)

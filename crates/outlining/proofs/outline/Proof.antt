@@ -17,11 +17,11 @@ sized c = c .before .before
 abbrev linked : tie.After-fill-map-arg → tie.After-link
 linked c = c .before .before .before
 
-abbrev filled : tie.After-list-all-arg4 → tie.After-fill-map
-filled c = c .before .before .before .before .before .before
+abbrev filled : tie.After-list-all-arg5 → tie.After-fill-map
+filled c = c .before .before .before .before .before .before .before
 
 abbrev listed : tie.After-fill-arg → tie.After-list-all
-listed c = c .before .before .before .before .before .before .before .before .before
+listed c = c .before .before .before .before .before .before .before .before .before .before
 
 -- ---- the needs
 
@@ -61,6 +61,9 @@ same-length-3 c = search needs
 same-length-4 : tie.Need-same-length-4
 same-length-4 c = search needs
 
+same-length-5 : tie.Need-same-length-5
+same-length-5 c = search needs
+
 returns : tie.Need-returns
 returns c =
     let r = c .before .before in
@@ -83,4 +86,5 @@ outline-spec =
     same-length-2
     same-length-3
     same-length-4
+    same-length-5
     returns)

@@ -10,13 +10,13 @@ use Rattle.starts.proofs.list_block.Tie as tie
 abbrev entry : tie.After-side → tie.Start
 entry c = c .before .before .before .before .before .before .before
 
-abbrev worked-out : tie.After-list-row-arg4 → tie.After-side
-worked-out c = c .before .before .before .before
+abbrev worked-out : tie.After-list-row-arg5 → tie.After-side
+worked-out c = c .before .before .before .before .before
 
-abbrev listed : tie.After-slice-known8 → tie.After-list-row
-listed c = c .before .before .before .before .before .before .before .before
+abbrev listed : tie.After-areas → tie.After-list-row
+listed c = c .before .before .before .before .before .before .before .before .before
 
-abbrev there : tie.After-slice-known8 → tie.After-side
+abbrev there : tie.After-areas → tie.After-side
 there c = worked-out (listed c .before)
 
 -- ---- the needs
@@ -56,6 +56,9 @@ same-length-3 c = search needs
 same-length-4 : tie.Need-same-length-4
 same-length-4 c = search needs
 
+same-length-5 : tie.Need-same-length-5
+same-length-5 c = search needs
+
 returns : tie.Need-returns
 returns c =
     top-row-listed (entry (there c) .pre) (there c .before .before .column .ensures) (there c .before .row .ensures) (there c .side .ensures)
@@ -76,4 +79,5 @@ list-block-spec =
     same-length-2
     same-length-3
     same-length-4
+    same-length-5
     returns)

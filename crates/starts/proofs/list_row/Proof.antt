@@ -1,6 +1,6 @@
 -- `list_row` meets its contract. The loop's invariant: the pixels before the column i are done, those from it on come next.
 -- The measure is what is left of the row.
-use Rattle.starts.specs.Progress.{state, same-owners, same-ends, same-corners}
+use Rattle.starts.specs.Progress.{state, same-owners, same-ends, same-corners, same-areas}
 use Rattle.starts.specs.Rows.{RowTo, end-small, begin, pixel-next, again, finish}
 use Prim.Native.Nat.{_-_, _+_}
 use native.Mathlib.Omega.{arith}
@@ -8,11 +8,11 @@ use Rattle.starts.proofs.list_row.Statement.{statement}
 use Rattle.starts.proofs.list_row.Tie as tie
 
 abbrev Inv-loop : tie.InvT-loop
-Inv-loop n x y width work₀ owners₀ ends₀ corners₀ end listed₀ i₀ work owners ends corners listed i =
-    RowTo n x y width (state work₀ owners₀ ends₀ corners₀ listed₀) (state work owners ends corners listed) i
+Inv-loop n x y width work₀ owners₀ ends₀ corners₀ areas₀ end listed₀ i₀ work owners ends corners areas listed i =
+    RowTo n x y width (state work₀ owners₀ ends₀ corners₀ areas₀ listed₀) (state work owners ends corners areas listed) i
 
 abbrev μ-loop : tie.MeasureT-loop
-μ-loop n x y width work₀ owners₀ ends₀ corners₀ end listed₀ i₀ work owners ends corners listed i =
+μ-loop n x y width work₀ owners₀ ends₀ corners₀ areas₀ end listed₀ i₀ work owners ends corners areas listed i =
     x + width - i
 
 -- ---- the places
@@ -20,16 +20,16 @@ abbrev μ-loop : tie.MeasureT-loop
 abbrev entry : tie.After-slice-known4 Inv-loop μ-loop → tie.Start Inv-loop μ-loop
 entry c = c .before .before .before .before
 
-abbrev inside : tie.After-list-pixel-arg4 Inv-loop μ-loop → tie.In-loop Inv-loop μ-loop
-inside c = c .before .before .before .before
+abbrev inside : tie.After-list-pixel-arg5 Inv-loop μ-loop → tie.In-loop Inv-loop μ-loop
+inside c = c .before .before .before .before .before
 
-abbrev listed : tie.After-slice-known8 Inv-loop μ-loop → tie.After-list-pixel Inv-loop μ-loop
-listed c = c .before .before .before .before .before .before .before .before
+abbrev listed : tie.After-areas Inv-loop μ-loop → tie.After-list-pixel Inv-loop μ-loop
+listed c = c .before .before .before .before .before .before .before .before .before
 
 abbrev start : tie.In-loop Inv-loop μ-loop → tie.Start Inv-loop μ-loop
 start c = entry (c .before .before)
 
-abbrev turn : tie.After-slice-known8 Inv-loop μ-loop → tie.In-loop Inv-loop μ-loop
+abbrev turn : tie.After-areas Inv-loop μ-loop → tie.In-loop Inv-loop μ-loop
 turn c = inside (listed c .before)
 
 -- ---- the needs
@@ -64,6 +64,9 @@ same-length-3 c = same-ends (entry (c .before .before) .pre .next .room) (c .bef
 same-length-4 : tie.Need-same-length-4 Inv-loop μ-loop
 same-length-4 c = same-corners (entry (c .before .before) .pre .next .room) (c .before .loop .inv .done .listed)
 
+same-length-5 : tie.Need-same-length-5 Inv-loop μ-loop
+same-length-5 c = same-areas (entry (c .before .before) .pre .next .room) (c .before .loop .inv .done .listed)
+
 returns : tie.Need-returns Inv-loop μ-loop
 returns c = finish (entry (c .before .before) .pre) (c .before .loop .inv) (c .loop-test .left)
 
@@ -83,4 +86,5 @@ list-row-spec =
     same-length-2
     same-length-3
     same-length-4
+    same-length-5
     returns)

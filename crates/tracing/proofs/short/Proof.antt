@@ -4,7 +4,7 @@ use Prim.Native.Nat.{_^_, _≤_}
 use native.Mathlib.Omega.{arith}
 use Rattle.sequences.specs.Powers.{pow4-mono}
 use Rattle.location.specs.Levels.{pixels-are-power}
-use Rattle.tracing.specs.Tracing.{Lent, lent, too-few-labels, too-short-work, too-few-owners, too-few-ends, by-corners}
+use Rattle.tracing.specs.Tracing.{Lent, lent, too-few-labels, too-short-work, too-few-owners, too-few-ends, too-few-corners, by-areas}
 use borrow.Author.Needs.{needs}
 use Rattle.tracing.proofs.short.Statement.{statement}
 use Rattle.tracing.proofs.short.Tie as tie
@@ -13,7 +13,7 @@ abbrev entry : tie.After-pixels → tie.Start
 entry c = c .before .before .before .before .before .before
 
 abbrev lists : tie.Start → Lent
-lists s = lent (s .args .labels .now) (s .args .work .now) (s .args .owners .now) (s .args .ends .now) (s .args .corners .now)
+lists s = lent (s .args .labels .now) (s .args .work .now) (s .args .owners .now) (s .args .ends .now) (s .args .corners .now) (s .args .areas .now)
 
 size : (c : tie.After-pixels) → c .pixels .result ≡ 4 ^ entry c .args .n
 size c = c .pixels .ensures ∙ pixels-are-power (entry c .args .n) (omega (arith, entry c .pre))
@@ -44,14 +44,23 @@ returns-4 c =
     let s = entry p in
     too-few-ends (s .args .n) (s .args .count) (lists s) (size p) (c .before .before .before .if1 .left) (c .before .before .if2 .left) (c .before .if3 .left) (c .if4 .taken)
 
-mul-result : tie.Need-mul-result
-mul-result c = omega (arith, low (c .before .before .before .before))
+mul-if5 : tie.Need-mul-if5
+mul-if5 c = omega (arith, low (c .before .before .before .before))
 
 returns-5 : tie.Need-returns-5
 returns-5 c =
-    let p = c .before .before .before .before in
+    let e = c .before in
+    let p = e .before .before .before .before in
     let s = entry p in
-    by-corners (s .args .n) (s .args .count) (lists s) (size p) (c .before .before .before .if1 .left) (c .before .before .if2 .left) (c .before .if3 .left) (c .if4 .left)
+    too-few-corners (s .args .n) (s .args .count) (lists s) (size p) (e .before .before .before .if1 .left) (e .before .before .if2 .left) (e .before .if3 .left) (e .if4 .left)
+    (c .if5 .taken)
+
+returns-6 : tie.Need-returns-6
+returns-6 c =
+    let e = c .before in
+    let p = e .before .before .before .before in
+    let s = entry p in
+    by-areas (s .args .n) (s .args .count) (lists s) (size p) (e .before .before .before .if1 .left) (e .before .before .if2 .left) (e .before .if3 .left) (e .if4 .left) (c .if5 .left)
 
 pub short-spec : {M : Type 1} → statement M
 short-spec =
@@ -63,5 +72,6 @@ short-spec =
     returns-2
     returns-3
     returns-4
-    mul-result
-    returns-5)
+    mul-if5
+    returns-5
+    returns-6)

@@ -14,10 +14,10 @@ use Rattle.tracing.proofs.trace.Tie as tie
 -- ---- the places
 
 abbrev entry : tie.After-unfit → tie.Start
-entry c = c .before .before .before .before .before .before .before .before .before .before .before .before .before .before
+entry c = c .before .before .before .before .before .before .before .before .before .before .before .before .before .before .before
 
 abbrev lists : tie.Start → Lent
-lists s = lent (s .args .labels .now) (s .args .work .now) (s .args .owners .now) (s .args .ends .now) (s .args .corners .now)
+lists s = lent (s .args .labels .now) (s .args .work .now) (s .args .owners .now) (s .args .ends .now) (s .args .corners .now) (s .args .areas .now)
 
 abbrev fitting : tie.After-number → tie.Else1
 fitting c = c .before .before .before
@@ -29,11 +29,11 @@ lent-at c = lists (entry (c .before))
 abbrev numbered : tie.After-struct-known → tie.After-number
 numbered c = c .before .before .before .before .before
 
-abbrev accepted : tie.After-outline-arg5 → tie.Else2
-accepted c = c .before .before .before .before .before
+abbrev accepted : tie.After-outline-arg6 → tie.Else2
+accepted c = c .before .before .before .before .before .before
 
 abbrev outlined : tie.After-struct-known2 → tie.After-outline
-outlined c = c .before .before .before .before .before .before .before .before .before
+outlined c = c .before .before .before .before .before .before .before .before .before .before
 
 -- ---- the needs
 
@@ -63,6 +63,9 @@ same-length-4 c = search needs
 same-length-5 : tie.Need-same-length-5
 same-length-5 c = search needs
 
+same-length-6 : tie.Need-same-length-6
+same-length-6 c = search needs
+
 returns : tie.Need-returns
 returns c =
     let u = c .before .before in
@@ -76,9 +79,6 @@ number-requires c κs = search needs
 refused-requires-2 : tie.Need-refused-requires-2
 refused-requires-2 c κs = search needs
 
-same-length-6 : tie.Need-same-length-6
-same-length-6 c = search needs
-
 same-length-7 : tie.Need-same-length-7
 same-length-7 c = search needs
 
@@ -90,6 +90,12 @@ same-length-9 c = search needs
 
 same-length-10 : tie.Need-same-length-10
 same-length-10 c = search needs
+
+same-length-11 : tie.Need-same-length-11
+same-length-11 c = search needs
+
+same-length-12 : tie.Need-same-length-12
+same-length-12 c = search needs
 
 returns-2 : tie.Need-returns-2
 returns-2 c =
@@ -111,17 +117,11 @@ counts-low c =
     let l = fitting d in
     counts-small (lent-at l) (long-enough l) (d .number .ensures) (a .if2 .left) (o .outline .ensures)
 
-cast-t38 : tie.Need-cast-t38
-cast-t38 c = omega (arith, counts-low c)
+cast-t43 : tie.Need-cast-t43
+cast-t43 c = omega (arith, counts-low c)
 
-cast-t39 : tie.Need-cast-t39
-cast-t39 c = omega (arith, counts-low (c .before))
-
-same-length-11 : tie.Need-same-length-11
-same-length-11 c = search needs
-
-same-length-12 : tie.Need-same-length-12
-same-length-12 c = search needs
+cast-t44 : tie.Need-cast-t44
+cast-t44 c = omega (arith, counts-low (c .before))
 
 same-length-13 : tie.Need-same-length-13
 same-length-13 c = search needs
@@ -131,6 +131,15 @@ same-length-14 c = search needs
 
 same-length-15 : tie.Need-same-length-15
 same-length-15 c = search needs
+
+same-length-16 : tie.Need-same-length-16
+same-length-16 c = search needs
+
+same-length-17 : tie.Need-same-length-17
+same-length-17 c = search needs
+
+same-length-18 : tie.Need-same-length-18
+same-length-18 c = search needs
 
 returns-3 : tie.Need-returns-3
 returns-3 c =
@@ -151,21 +160,24 @@ trace-spec =
     same-length-3
     same-length-4
     same-length-5
+    same-length-6
     returns
     number-requires
     refused-requires-2
-    same-length-6
     same-length-7
     same-length-8
     same-length-9
     same-length-10
-    returns-2
-    outline-requires
-    cast-t38
-    cast-t39
     same-length-11
     same-length-12
+    returns-2
+    outline-requires
+    cast-t43
+    cast-t44
     same-length-13
     same-length-14
     same-length-15
+    same-length-16
+    same-length-17
+    same-length-18
     returns-3)

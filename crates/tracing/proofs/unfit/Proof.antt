@@ -11,7 +11,7 @@ abbrev entry : tie.After-shared-slice-known8 → tie.Start
 entry c = c .before .before .before .before .before .before .before .before
 
 abbrev lists : tie.Start → Lent
-lists s = lent (s .args .labels .now) (s .args .work .now) (s .args .owners .now) (s .args .ends .now) (s .args .corners .now)
+lists s = lent (s .args .labels .now) (s .args .work .now) (s .args .owners .now) (s .args .ends .now) (s .args .corners .now) (s .args .areas .now)
 
 -- ---- the needs
 

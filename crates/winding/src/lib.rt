@@ -1,0 +1,1 @@
+// How often a closed walk winds around a pixel, and the signs of the areas of outlines: theory only.
