@@ -240,7 +240,7 @@ module _ (n : ℕ) (cs ls ks : List ℕ) (b : Lent) where
         for-areas = omega arith;
       }
 
-  -- Where the check finds nothing, 8 is said exactly where a need is not met.
+  -- Where the check finds nothing and a need is not met, the number is 8.
   pub short-unless-met : number n cs ls ks ≡ 0 → (Needs n cs ls ks b → ⊥) → 8 ≡ tracingNumber n cs ls ks b
   unfolding tracingNumber numberWith
   short-unless-met accepted not-met = pick (tooShort n (length cs) b) refl
