@@ -33,14 +33,14 @@ use Rattle.grid.specs.Listing.{startCodes, Cycle, owners, ends, allCorners, are
 use Rattle.grid.specs.Listed.{OnceIn, SidesOnce, OutlinesListed, listing-length, points-at, outline-at, ring-at, each-side-once, pixel-side-once, all-outlines-listed}
 use Rattle.grid.specs.Undoing.{back, step-edge}
 use Rattle.grid.specs.Returning.{Ring, edge-returns, back-edge, step-back, step-injective, cycles-equal-or-apart}
-use Rattle.grid.specs.Bounds.{cycles-fit, corner-count-fits}
+use Rattle.grid.specs.Bounds.{cycles-fit, corner-count-fits, area-fits}
 use Rattle.grid.specs.Forms.{listed-is-cycle-form}
 use Rattle.grid.specs.Outer.{OuterAt, first-is-outer, region-has-first}
 use Rattle.grid.specs.Sides.{sideAt, beyond}
 use Rattle.grid.specs.Starting.{margin}
 use Rattle.grid.specs.Stretches.{length-owners, length-ends, length-areas, area-at, last-end}
 use Rattle.grid.specs.Pinches.{meeting-turns-right}
-use Rattle.winding.specs.Signs.{outer-above, others-below, area-fits}
+use Rattle.winding.specs.Signs.{outer-above, others-below}
 use Rattle.stretches.specs.Stretch.{stretchOf}
 use Rattle.regions.specs.Promise.{Numbering, numbered}
 use Rattle.regions.specs.Callers.{labelOfPixel, labels-by-least-codes}

@@ -1,4 +1,4 @@
--- How much is listed: at most 4^n cycles and 4 times 4^n corners, so the needs that document 01 states suffice.
+-- How much is listed: at most 4^n cycles and 4 times 4^n corners, so the needs that document 01 states suffice; 32 bits hold each area.
 use mathlib.Core.Path.{_≡_, sym, ap, ap₂, _∙_, subst}
 use mathlib.Core.Logic.{_≢_}
 use mathlib.Core.List.{List, [], _∷_, map, flatMap}
@@ -6,23 +6,28 @@ use Prim.Native.Nat.{ℕ, suc, _+_, _*_, _^_, _≤_, _<_}
 use native.Mathlib.Decide.{ℕ-discrete}
 use native.Mathlib.Omega.{arith}
 use lib.ListN.{length, getD, length-append}
+use lib.IntN.{pos}
+use lib.Signed.{mag}
+use Rattle.sequences.specs.Differences.{mag-within-size}
 use Rattle.interleaving.specs.Codes.{code}
 use Rattle.interleaving.specs.Interleaving.{code-below, code-injective}
 use Rattle.lattice.specs.Directions.{tail, digit}
 use Rattle.lattice.specs.Walks.{turns, lastOf, corners}
 use Rattle.lattice.specs.Corners.{turns-on, turns-turn}
+use Rattle.lattice.specs.Area.{area, area-size}
 use Rattle.orbits.specs.Members.{In, Distinct, in-flat, ordered-flat, keyed-length}
 use Rattle.grid.specs.Map.{regionAt}
 use Rattle.grid.specs.Margins.{Pixel, pixel-at}
 use Rattle.grid.specs.Steps.{Edge}
-use Rattle.grid.specs.Cycles.{northSide, cycle, cycleFrom}
-use Rattle.grid.specs.Listing.{startCodes, Cycle, cycleAt, listing, allCorners, cycleCount, cornerCount}
+use Rattle.grid.specs.Cycles.{edgeLimit, northSide, cycle, cycleFrom}
+use Rattle.grid.specs.Listing.{startCodes, Cycle, cycleAt, listing, allCorners, areas, cycleCount, cornerCount}
 use Rattle.grid.specs.Undoing.{digit-below-four}
 use Rattle.grid.specs.Sides.{sideAt, rightX, rightY, RightOf, edge-is-side}
 use Rattle.grid.specs.Returning.{Ring, ring}
 use Rattle.grid.specs.Starting.{StartAt, margin, start-says, one-start}
 use Rattle.grid.specs.Keeping.{in-start-codes, start-codes-distinct, starts-fit}
-use Rattle.grid.specs.Listed.{listing-length}
+use Rattle.grid.specs.Listed.{listing-length, outline-at, ring-at}
+use Rattle.grid.specs.Stretches.{area-at}
 
 -- The corners of a walk are not more than its edges.
 turns-fit : (d : ℕ) (es : List ℕ) → length (turns d es) ≤ length es
@@ -123,3 +128,20 @@ cycles-fit n nums regions = omega (arith, listing-length n nums regions, starts-
 pub corner-count-fits : (n : ℕ) (nums : List ℕ) (regions : ℕ) → n ≤ 8 → cornerCount (listing n nums regions) ≤ 4 * 4 ^ n
 unfolding cornerCount listing
 corner-count-fits n nums regions small = omega (arith, corners-below-edges n nums (startCodes n nums regions), all-edges-fit n nums small regions)
+
+-- At most 526,336 edges, and no x above 511.
+size-of-area : (es : List ℕ) → length es ≤ edgeLimit → mag (area es) < 2147483648
+size-of-area es h = omega (arith, mag-within-size (area es), area-size es)
+
+module _ (n : ℕ) (nums : List ℕ) (count : ℕ) (small : n ≤ 8) (k : ℕ) (listed : k < length (listing n nums count)) where
+  -- The area of the cycle k is that of the edges from its start.
+  pub area-of-cycle : getD (areas (listing n nums count)) k (pos 0) ≡ area (cycle n nums (getD (startCodes n nums count) k 0))
+  area-of-cycle = area-at (listing n nums count) k listed ∙ ap area (outline-at n nums count small k listed)
+
+  -- "Each cycle gets a signed 32-bit area" (document 02, request c).
+  pub area-fits : mag (getD (areas (listing n nums count)) k (pos 0)) < 2147483648
+  unfolding cycle
+  area-fits =
+      let g = ring-at n nums count small k listed in
+      subst (λ z. mag z < 2147483648) (sym area-of-cycle)
+      (size-of-area (cycle n nums (getD (startCodes n nums count) k 0)) (subst (λ i. i ≤ edgeLimit) (sym (g .long)) (g .few)))

@@ -15,12 +15,12 @@ pub mod Pinches
 pub mod North
 pub mod Starting
 pub mod Closing
--- What is listed: every side once, all outlines, how many, cycle forms, the outer ones, the stretch of each.
+-- What is listed: every side once, all outlines, the stretch of each, how many, cycle forms, the outer ones.
 pub mod Keeping
 pub mod Listed
+pub mod Stretches
 pub mod Bounds
 pub mod Forms
 pub mod Outer
-pub mod Stretches
 -- For the loops that list: where the cycle through a north side starts.
 pub mod Unseen

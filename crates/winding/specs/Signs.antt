@@ -1,39 +1,21 @@
--- The signs and sizes of the areas of an image's cycles, in the order of the listing (document 02, request c).
-use mathlib.Core.Path.{_≡_, refl, sym, ap, _∙_, subst}
+-- The signs of the areas of an image's cycles, in the order of the listing (document 02, request c).
+use mathlib.Core.Path.{_≡_, refl, sym, _∙_, subst}
 use mathlib.Core.Logic.{_≢_}
 use mathlib.Core.List.{List}
 use Prim.Native.Nat.{ℕ, _≤_, _<_}
 use native.Mathlib.Omega.{arith}
 use lib.ListN.{length, getD}
 use lib.IntN.{pos}
-use lib.Signed.{_<ℤ_, mag}
-use Rattle.sequences.specs.Differences.{difference, difference-above, difference-below, mag-within-size}
-use Rattle.lattice.specs.Area.{area, area-size}
-use Rattle.grid.specs.Cycles.{edgeLimit, cycle}
+use lib.Signed.{_<ℤ_}
+use Rattle.sequences.specs.Differences.{difference, difference-above, difference-below}
+use Rattle.grid.specs.Cycles.{cycle}
 use Rattle.grid.specs.Listing.{startCodes, Cycle, listing, owners, areas}
-use Rattle.grid.specs.Stretches.{area-at}
-use Rattle.grid.specs.Listed.{start-at, outline-at, ring-at}
+use Rattle.grid.specs.Listed.{start-at}
+use Rattle.grid.specs.Bounds.{area-of-cycle}
 use Rattle.grid.specs.Outer.{LeastPixel, least-pixel, first-of-region, first-starts-least}
 use Rattle.components.specs.Numbers.{numbers, regions}
 use Rattle.winding.specs.Crossings.{xSum, area-is-difference}
 use Rattle.winding.specs.LeastPixels.{north-below-south, south-below-north}
-
--- At most 526,336 edges, and no x above 511.
-size-of-area : (es : List ℕ) → length es ≤ edgeLimit → mag (area es) < 2147483648
-size-of-area es h = omega (arith, mag-within-size (area es), area-size es)
-
-module _ (n : ℕ) (nums : List ℕ) (count : ℕ) (small : n ≤ 8) (k : ℕ) (listed : k < length (listing n nums count)) where
-  -- The area of the cycle k is that of the edges from its start.
-  area-of-cycle : getD (areas (listing n nums count)) k (pos 0) ≡ area (cycle n nums (getD (startCodes n nums count) k 0))
-  area-of-cycle = area-at (listing n nums count) k listed ∙ ap area (outline-at n nums count small k listed)
-
-  -- "Each cycle gets a signed 32-bit area"
-  pub area-fits : mag (getD (areas (listing n nums count)) k (pos 0)) < 2147483648
-  unfolding cycle
-  area-fits =
-      let g = ring-at n nums count small k listed in
-      subst (λ z. mag z < 2147483648) (sym area-of-cycle)
-      (size-of-area (cycle n nums (getD (startCodes n nums count) k 0)) (subst (λ i. i ≤ edgeLimit) (sym (g .long)) (g .few)))
 
 -- "A region's first cycle has an area above zero and its other cycles have areas below zero."
 module _ (n : ℕ) (px : List ℕ) (small : n ≤ 8) where
