@@ -228,14 +228,14 @@ module _ {n : ℕ} {cs ls ks : List ℕ} {before after : Lent} {r : Traced} (p :
     unfolding cyclesWritten
     written = written-accepted (tracingNumber n cs ls ks before) (outlinesOf n cs ls ks) zero-number
 
-    cycles-are : r .cycles ≡ length (outlinesOf n cs ls ks)
+    pub cycles-are : r .cycles ≡ length (outlinesOf n cs ls ks)
     unfolding cycleCount
     cycles-are = ap (λ (a : Traced). a .cycles) (p .answer) ∙ ap (λ (c : List Cycle). length c) written
 
     corners-are : r .corners ≡ cornerCount (outlinesOf n cs ls ks)
     corners-are = ap (λ (a : Traced). a .corners) (p .answer) ∙ ap cornerCount written
 
-    owners-are : after .ownerList ≡ over (owners (outlinesOf n cs ls ks)) (before .ownerList)
+    pub owners-are : after .ownerList ≡ over (owners (outlinesOf n cs ls ks)) (before .ownerList)
     owners-are = p .in-owners ∙ ap (λ (c : List Cycle). over (owners c) (before .ownerList)) written
 
     ends-are : after .endList ≡ over (ends (outlinesOf n cs ls ks)) (before .endList)
@@ -244,7 +244,7 @@ module _ {n : ℕ} {cs ls ks : List ℕ} {before after : Lent} {r : Traced} (p :
     points-are : after .cornerList ≡ over (allCorners (outlinesOf n cs ls ks)) (before .cornerList)
     points-are = p .in-corners ∙ ap (λ (c : List Cycle). over (allCorners c) (before .cornerList)) written
 
-    areas-are : after .areaList ≡ over (areas (outlinesOf n cs ls ks)) (before .areaList)
+    pub areas-are : after .areaList ≡ over (areas (outlinesOf n cs ls ks)) (before .areaList)
     areas-are = p .in-areas ∙ ap (λ (c : List Cycle). over (areas c) (before .areaList)) written
 
     labels-are : after .labelList ≡ over (labels n (blocks cs ls ks)) (before .labelList)
@@ -255,7 +255,7 @@ module _ {n : ℕ} {cs ls ks : List ℕ} {before after : Lent} {r : Traced} (p :
     unfolding zerosLeft
     work-is = p .in-work ∙ ap (λ (l : List ℕ). over l (before .workList)) (written-accepted (tracingNumber n cs ls ks before) (replicate (2 * 4 ^ n) 0) zero-number)
 
-    regions-are : r .regions ≡ regions n (paint (blocks cs ls ks))
+    pub regions-are : r .regions ≡ regions n (paint (blocks cs ls ks))
     unfolding regionsListed
     regions-are = ap (λ (a : Traced). a .regions) (p .answer) ∙ count-accepted (tracingNumber n cs ls ks before) (regions n (paint (blocks cs ls ks))) zero-number
 

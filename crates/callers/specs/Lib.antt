@@ -2,3 +2,4 @@
 pub mod Demand3
 pub mod PathData
 pub mod LaidOver
+pub mod AreasAddUp

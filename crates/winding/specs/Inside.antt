@@ -86,7 +86,7 @@ module _ (n : ℕ) (px : List ℕ) (small : n ≤ 8) (v : ℕ) (es : List ℕ) (
   to-west : (a b : ℕ) → suc (column n b) ≡ column n a → row n b ≡ row n a → Inside a → Inside b → SameAround a b
   to-west a b x y i =
       subst₂ (λ p q. m p (suc q) ≡ suc v → SameWinding es (suc (column n a)) (suc (row n a)) p (suc q)) (sym x) (sym y)
-      (both-inside (beside-west m (suc v) es c (column n a) (row n a) (low a)) i)
+      (both-inside (beside-west m (suc v) es (c .edges) (column n a) (row n a) (low a)) i)
 
   one-step : (a b : ℕ) → Step n a b → Inside a → Inside b → SameAround a b
   one-step a b (north x y) i j = to-north a b x y i j

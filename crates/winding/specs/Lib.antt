@@ -13,3 +13,7 @@ pub mod Columns
 pub mod Inside
 pub mod LeastPixels
 pub mod Signs
+-- All edges of a region at once, and sums of areas.
+pub mod AllEdges
+pub mod Totals
+pub mod RegionAreas

@@ -36,24 +36,29 @@ pub record Neighbours (m : ℕ → ℕ → ℕ) (r : ℕ) (es : List ℕ) (right
   pub on-right : In right es → (m A B ≡ r) × (m X Y ≢ r)
   pub on-left : In left es → (m X Y ≡ r) × (m A B ≢ r)
 
-module _ (m : ℕ → ℕ → ℕ) (r : ℕ) (es : List ℕ) (c : ClosedWalk m r es) where
+module _ (m : ℕ → ℕ → ℕ) (r : ℕ) (es : List ℕ) (edges : (e : ℕ) → In e es → Edge m r e) where
   region-right : {s d x Y : ℕ} → LiesAt s d x Y → In s es → RightOnly m r d x Y
-  region-right {s} at i = right-only m r at (c .edges s i)
+  region-right {s} at i = right-only m r at (edges s i)
 
-  -- Across the north side of the pixel (x, y), and across its west side.
-  pub beside-north : (x y : ℕ) → x < 511 → Neighbours m r es (edge (point x y) 0) (edge (point (suc x) y) 2) (suc x) (suc y) (suc x) y
-  unfolding RightOnly same
-  beside-north x y h =
-      let east : LiesAt (edge (point x y) 0) 0 x y = edge-lies-at x y 0 y (omega arith) (omega arith) (omega arith) in
-      let west : LiesAt (edge (point (suc x) y) 2) 2 (suc x) y = edge-lies-at (suc x) y 2 y (omega arith) (omega arith) (omega arith) in
-      record { changes = omega (arith, crossings-south x y east west (c .from) es (c .walk)); on-right = region-right east; on-left = region-right west }
-
+  -- Across the west side of the pixel (x, y), for any edges of the region, and across its north side, for a closed walk along them.
   pub beside-west : (x y : ℕ) → x < 511 → Neighbours m r es (edge (point x (suc y)) 1) (edge (point x y) 3) (suc x) (suc y) x (suc y)
   unfolding RightOnly same
   beside-west x y h =
       let north : LiesAt (edge (point x (suc y)) 1) 1 x (suc y) = edge-lies-at x (suc y) 1 (suc y) (omega arith) (omega arith) (omega arith) in
       let south : LiesAt (edge (point x y) 3) 3 x (suc y) = edge-lies-at x y 3 (suc y) (omega arith) (omega arith) (omega arith) in
       record { changes = omega (arith, crossings-east north es, crossings-east south es); on-right = region-right north; on-left = region-right south }
+
+pub beside-north : (m : ℕ → ℕ → ℕ) (r : ℕ) (es : List ℕ) → ClosedWalk m r es
+    → (x y : ℕ) → x < 511 → Neighbours m r es (edge (point x y) 0) (edge (point (suc x) y) 2) (suc x) (suc y) (suc x) y
+unfolding RightOnly same
+beside-north m r es c x y h =
+    let east : LiesAt (edge (point x y) 0) 0 x y = edge-lies-at x y 0 y (omega arith) (omega arith) (omega arith) in
+    let west : LiesAt (edge (point (suc x) y) 2) 2 (suc x) y = edge-lies-at (suc x) y 2 y (omega arith) (omega arith) (omega arith) in
+    record {
+      changes = omega (arith, crossings-south x y east west (c .from) es (c .walk));
+      on-right = region-right m r es (c .edges) east;
+      on-left = region-right m r es (c .edges) west;
+    }
 
 module _ {m : ℕ → ℕ → ℕ} {r : ℕ} {es : List ℕ} {right left A B X Y : ℕ} (n : Neighbours m r es right left A B X Y) where
   pub neighbours-back : Neighbours m r es left right X Y A B

@@ -1,11 +1,13 @@
 -- Sums over the entries of a list, and how often a number stands in a list.
-use mathlib.Core.Path.{_≡_, refl, sym, subst}
+use mathlib.Core.Path.{_≡_, refl, sym, ap, _∙_, subst}
 use mathlib.Core.Logic.{_≢_, _⊎_, inl, inr}
-use mathlib.Core.List.{List, [], _∷_}
-use Prim.Native.Nat.{ℕ, _+_}
+use mathlib.Core.List.{List, [], _∷_, map}
+use Prim.Native.Nat.{ℕ, zero, suc, _+_, _<_}
 use native.Mathlib.Omega.{arith}
+use lib.ListN.{length}
+use Rattle.sequences.specs.Ranges.{range, tabulate}
 use Rattle.orbits.specs.Members.{In, Distinct, in-first, in-later, in-cases, in-none, ordered-rest, ordered-first}
-use Rattle.winding.specs.Sums.{same, same-yes, same-no}
+use Rattle.winding.specs.Sums.{same, same-yes, same-no, same-suc, at-most-yes, sum, sum-same, sum-none, sum-add, sum-first, sum-one}
 
 -- f of the first entry + f of the second + ..
 unfoldable pub tally : (ℕ → ℕ) → List ℕ → ℕ
@@ -37,3 +39,36 @@ occurrences-one s (e ∷ es) d i = pick (in-cases s e es i) (occurrences-one s e
     pick : (s ≡ e) ⊎ In s es → (In s es → tally (same s) es ≡ 1) → same s e + tally (same s) es ≡ 1
     pick (inl q) ih = omega (arith, same-yes s e q, occurrences-none s es (λ j. later j q))
     pick (inr j) ih = omega (arith, same-no s e (later j), ih j)
+
+-- How often v stands in a list that a rule makes.
+tally-range : (f rule : ℕ → ℕ) (a k : ℕ) → tally f (map rule (range a k)) ≡ sum k (λ i. f (rule (a + i)))
+unfolding tally range sum
+tally-range f rule a zero = refl
+tally-range f rule a (suc k) =
+    let here : a ≡ a + 0 = omega arith in
+    let next : (i : ℕ) → suc a + i ≡ a + suc i = λ i. omega arith in
+    omega (
+      arith,
+      ap (λ (b : ℕ). f (rule b)) here,
+      tally-range f rule (suc a) k ∙ sum-same k _ (λ i. f (rule (a + suc i))) (λ i h. ap (λ (b : ℕ). f (rule b)) (next i)),
+      sum-first k (λ i. f (rule (a + i))),
+    )
+
+pub occurrences-in-tabulate : (v k : ℕ) (rule : ℕ → ℕ) → occurrences v (tabulate k rule) ≡ sum k (λ i. same v (rule i))
+unfolding occurrences tabulate
+occurrences-in-tabulate v k rule =
+    let none : (i : ℕ) → 0 + i ≡ i = λ i. omega arith in
+    tally-range (same v) rule 0 k ∙ sum-same k _ (λ i. same v (rule i)) (λ i h. ap (λ (b : ℕ). same v (rule b)) (none i))
+
+-- In a list of numbers below k, how often each of them stands adds to the length.
+pub occurrences-add : (k : ℕ) (l : List ℕ) → ((e : ℕ) → In e l → e < k) → sum k (λ v. occurrences v l) ≡ length l
+unfolding occurrences tally
+occurrences-add k [] below = sum-none k (λ v. 0) (λ v. refl)
+occurrences-add k (e ∷ l) below =
+    omega (
+      arith,
+      sum-add k (λ v. same v e) (λ v. occurrences v l),
+      sum-same k _ (λ v. same (suc v) (suc e)) (λ v h. sym (same-suc v e)) ∙ sum-one k e,
+      at-most-yes (suc e) k (below e (in-first e l)),
+      occurrences-add k l (λ a i. below a (in-later a e l i)),
+    )
