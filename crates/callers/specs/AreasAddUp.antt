@@ -2,10 +2,9 @@
 use mathlib.Core.Path.{_≡_, sym, ap, ap₂, _∙_}
 use mathlib.Core.List.{List, map}
 use Prim.Native.Nat.{ℕ, _/_, _%_, _^_, _≤_, _<_}
-use native.Mathlib.Omega.{arith}
 use lib.ListN.{length, getD, take}
 use lib.IntN.{ℤ, pos}
-use Rattle.sequences.specs.Over.{over, take-over}
+use Rattle.sequences.specs.Over.{take-over}
 use Rattle.sequences.specs.Ranges.{range, tabulate, tabulate-at, tabulate-same}
 use Rattle.interleaving.specs.Codes.{code}
 use Rattle.interleaving.specs.Interleaving.{code-below}

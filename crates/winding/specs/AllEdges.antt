@@ -7,7 +7,7 @@ use Prim.Native.Nat.{ℕ, zero, suc, _+_, _-_, _<_}
 use native.Mathlib.Decide.{ℕ-discrete}
 use native.Mathlib.Omega.{arith}
 use lib.IntN.{pos}
-use Rattle.sequences.specs.Differences.{difference, difference-pos}
+use Rattle.sequences.specs.Differences.{difference-pos}
 use Rattle.lattice.specs.Directions.{point, edge}
 use Rattle.lattice.specs.Area.{area}
 use Rattle.orbits.specs.Members.{In, Distinct}

@@ -1,9 +1,9 @@
 -- The areas of a region's cycles add to its number of pixels, and those of all cycles to 4^n (document 02, request d).
 use mathlib.Core.Path.{_≡_, refl, sym, ap, ap₂, _∙_, subst}
 use mathlib.Core.Logic.{_≢_}
-use mathlib.Core.Bool.{Bool, true}
+use mathlib.Core.Bool.{Bool}
 use mathlib.Core.List.{List, [], _∷_, map, flatMap}
-use Prim.Native.Nat.{ℕ, suc, _*_, _/_, _%_, _^_, _≤_, _<_}
+use Prim.Native.Nat.{ℕ, suc, _/_, _%_, _^_, _≤_, _<_}
 use native.Mathlib.Decide.{ℕ-discrete}
 use native.Mathlib.Omega.{arith}
 use lib.ListN.{length, getD}
@@ -25,10 +25,10 @@ use Rattle.grid.specs.Steps.{Edge}
 use Rattle.grid.specs.Cycles.{cycle}
 use Rattle.grid.specs.Listing.{keep, startCodes, cycleAt, listing, owners, areas}
 use Rattle.grid.specs.Keeping.{keep-yes, keep-no, in-keep, keep-in, ordered-keep, in-start-codes, start-codes-distinct}
-use Rattle.grid.specs.Starting.{StartAt, Started, start-says, says-start, some-start, one-start}
+use Rattle.grid.specs.Starting.{StartAt, Started, says-start, some-start, one-start}
 use Rattle.grid.specs.Closing.{sides-of-corners}
 use Rattle.grid.specs.North.{side-small}
-use Rattle.grid.specs.Listed.{listing-length, owner-at}
+use Rattle.grid.specs.Listed.{listing-length, owner-at, start-at}
 use Rattle.grid.specs.Stretches.{length-owners, length-areas}
 use Rattle.winding.specs.Sums.{same, same-suc, same-flip, sum, sum-same, sum-rows}
 use Rattle.winding.specs.Tallies.{occurrences, occurrences-in-tabulate, occurrences-add}
@@ -98,7 +98,7 @@ module _ (n : ℕ) (nums : List ℕ) (small : n ≤ 8) where
     codes = startCodes n nums regions
 
     start : (c : ℕ) → In c codes → StartAt n nums c
-    start c i = let h = in-start-codes n nums regions c .0 i in start-says n nums small c (h .0) (h .2)
+    start c (k, h, e) = subst (StartAt n nums) e (start-at n nums regions small k (omega (arith, h, listing-length n nums regions)))
 
     closed : (c : ℕ) → In c codes → ClosedWalk m (suc (getD nums c 0)) (cycle n nums c)
     closed c i = cycle-closed n nums small c (start c i)

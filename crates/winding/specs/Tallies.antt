@@ -40,25 +40,33 @@ occurrences-one s (e ∷ es) d i = pick (in-cases s e es i) (occurrences-one s e
     pick (inl q) ih = omega (arith, same-yes s e q, occurrences-none s es (λ j. later j q))
     pick (inr j) ih = omega (arith, same-no s e (later j), ih j)
 
--- How often v stands in a list that a rule makes.
-tally-range : (f rule : ℕ → ℕ) (a k : ℕ) → tally f (map rule (range a k)) ≡ sum k (λ i. f (rule (a + i)))
+-- Over the numbers below k, it is the sum.
+tally-range : (f : ℕ → ℕ) (a k : ℕ) → tally f (range a k) ≡ sum k (λ i. f (a + i))
 unfolding tally range sum
-tally-range f rule a zero = refl
-tally-range f rule a (suc k) =
+tally-range f a zero = refl
+tally-range f a (suc k) =
     let here : a ≡ a + 0 = omega arith in
     let next : (i : ℕ) → suc a + i ≡ a + suc i = λ i. omega arith in
     omega (
       arith,
-      ap (λ (b : ℕ). f (rule b)) here,
-      tally-range f rule (suc a) k ∙ sum-same k _ (λ i. f (rule (a + suc i))) (λ i h. ap (λ (b : ℕ). f (rule b)) (next i)),
-      sum-first k (λ i. f (rule (a + i))),
+      ap f here,
+      tally-range f (suc a) k ∙ sum-same k _ (λ i. f (a + suc i)) (λ i h. ap f (next i)),
+      sum-first k (λ i. f (a + i)),
     )
+
+pub tally-below : (f : ℕ → ℕ) (k : ℕ) → tally f (range 0 k) ≡ sum k f
+tally-below f k =
+    let none : (i : ℕ) → 0 + i ≡ i = λ i. omega arith in
+    tally-range f 0 k ∙ sum-same k _ f (λ i h. ap f (none i))
+
+tally-map : (f rule : ℕ → ℕ) (l : List ℕ) → tally f (map rule l) ≡ tally (λ e. f (rule e)) l
+unfolding tally
+tally-map f rule [] = refl
+tally-map f rule (e ∷ l) = ap (λ (k : ℕ). f (rule e) + k) (tally-map f rule l)
 
 pub occurrences-in-tabulate : (v k : ℕ) (rule : ℕ → ℕ) → occurrences v (tabulate k rule) ≡ sum k (λ i. same v (rule i))
 unfolding occurrences tabulate
-occurrences-in-tabulate v k rule =
-    let none : (i : ℕ) → 0 + i ≡ i = λ i. omega arith in
-    tally-range (same v) rule 0 k ∙ sum-same k _ (λ i. same v (rule i)) (λ i h. ap (λ (b : ℕ). same v (rule b)) (none i))
+occurrences-in-tabulate v k rule = tally-map (same v) rule (range 0 k) ∙ tally-below (λ i. same v (rule i)) k
 
 -- In a list of numbers below k, how often each of them stands adds to the length.
 pub occurrences-add : (k : ℕ) (l : List ℕ) → ((e : ℕ) → In e l → e < k) → sum k (λ v. occurrences v l) ≡ length l

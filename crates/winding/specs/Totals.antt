@@ -3,8 +3,7 @@ use mathlib.Core.Path.{_≡_, refl, sym, ap, ap₂, _∙_}
 use mathlib.Core.Logic.{_≢_, _⊎_, inl, inr}
 use mathlib.Core.Bool.{cond}
 use mathlib.Core.List.{List, [], _∷_, map}
-use Prim.Native.Nat.{ℕ, zero, suc, _+_, _<_}
-use native.Mathlib.Decide.{ℕ-discrete}
+use Prim.Native.Nat.{ℕ, _<_}
 use native.Mathlib.Omega.{arith}
 use lib.ListN.{length}
 use lib.IntN.{ℤ, pos, negsuc, _+ℤ_, +ℤ-idl, +ℤ-assoc, +ℤ-comm}
@@ -15,7 +14,8 @@ use Rattle.orbits.specs.Members.{In, Distinct, in-first, in-later, in-cases, in
 use Rattle.grid.specs.Figures.{figure5a}
 use Rattle.grid.specs.Listing.{listing, owners, areas}
 use Rattle.grid.specs.Keeping.{in-range, range-rises}
-use Rattle.winding.specs.Sums.{sum, sum-same, sum-first}
+use Rattle.winding.specs.Sums.{sum}
+use Rattle.winding.specs.Tallies.{tally, tally-below}
 
 -- The sum of a list of areas.
 unfoldable pub total : List ℤ → ℤ
@@ -104,17 +104,11 @@ total-by-region k (o ∷ os) (z ∷ zs) same below =
     among o os z zs (range 0 k) (λ i j h l e. omega (arith, range-rises k i j h l, e)) (in-range o k .1 (below o (in-first o os)))
     ∙ ap (λ x. z +ℤ x) (total-by-region k os zs (omega arith) (λ a i. below a (in-later a o os i)))
 
--- Where each region has a number of pixels, they add up as numbers do.
-total-from : (f : ℕ → ℕ) (a k : ℕ) → total (map (λ v. pos (f v)) (range a k)) ≡ pos (sum k (λ i. f (a + i)))
-unfolding total range sum
-total-from f a zero = refl
-total-from f a (suc k) =
-    let here : a ≡ a + 0 = omega arith in
-    let next : (i : ℕ) → suc a + i ≡ a + suc i = λ i. omega arith in
-    ap (λ x. pos (f a) +ℤ x) (total-from f (suc a) k ∙ ap pos (sum-same k _ (λ i. f (a + suc i)) (λ i h. ap f (next i))))
-    ∙ ap pos (omega (arith, ap f here, sum-first k (λ i. f (a + i))))
+-- Numbers add up as numbers.
+total-of-naturals : (f : ℕ → ℕ) (vs : List ℕ) → total (map (λ v. pos (f v)) vs) ≡ pos (tally f vs)
+unfolding total tally
+total-of-naturals f [] = refl
+total-of-naturals f (v ∷ vs) = ap (λ x. pos (f v) +ℤ x) (total-of-naturals f vs)
 
 pub total-of-numbers : (f : ℕ → ℕ) (k : ℕ) → total (map (λ v. pos (f v)) (range 0 k)) ≡ pos (sum k f)
-total-of-numbers f k =
-    let none : (i : ℕ) → 0 + i ≡ i = λ i. omega arith in
-    total-from f 0 k ∙ ap pos (sum-same k _ f (λ i h. ap f (none i)))
+total-of-numbers f k = total-of-naturals f (range 0 k) ∙ ap pos (tally-below f k)
