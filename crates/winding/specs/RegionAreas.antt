@@ -143,10 +143,11 @@ module _ (n : ℕ) (nums : List ℕ) (small : n ≤ 8) where
           ∙ area-is-pixels m (suc v) (omega arith) (edgesOf v codes) only-edges edges-once all-edges (2 ^ n) (omega (arith, side-small n small)) fit none-east
           ∙ ap pos (region-pixels v)
 
-    -- "Over all regions they add to 4^n."
+    -- What the areas of each region add to, region after region.
     abbrev totals : List ℤ
     totals = map (λ v. total (areasOf v (owners (listing n nums regions)) (areas (listing n nums regions)))) (range 0 regions)
 
+    -- Each pixel is one of one region.
     all-counted : sum regions (λ v. occurrences v (inRows n nums)) ≡ 4 ^ n
     all-counted = occurrences-add regions (inRows n nums) below ∙ length-in-rows n nums
       where
@@ -154,8 +155,12 @@ module _ (n : ℕ) (nums : List ℕ) (small : n ≤ 8) where
         below v (i, h, e) =
             omega (arith, e, in-rows-at n nums i (omega (arith, length-in-rows n nums)), known (code n (i % 2 ^ n) (i / 2 ^ n)) (code-below n (i % 2 ^ n) (i / 2 ^ n)))
 
+    -- "Over all regions they add to 4^n": region after region, and cycle after cycle.
     pub areas-of-regions-add : total totals ≡ pos (4 ^ n)
-    areas-of-regions-add = (λ i. total (map (λ v. areas-of-region-add v i) (range 0 regions))) ∙ total-of-numbers (λ v. occurrences v (inRows n nums)) regions ∙ ap pos all-counted
+    areas-of-regions-add =
+        (λ i. total (map (λ v. areas-of-region-add v i) (range 0 regions)))
+        ∙ total-of-numbers (λ v. occurrences v (inRows n nums)) regions
+        ∙ ap pos all-counted
 
     pub all-areas-add : total (areas (listing n nums regions)) ≡ pos (4 ^ n)
     all-areas-add =
