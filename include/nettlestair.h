@@ -98,8 +98,8 @@ struct nettlestair_numbered nettlestair_number(uint32_t n, const uint32_t *codes
 /* The outlines of all regions: 0, or 1 to 8. Labels and work list are as for nettlestair_number. For each cycle the owners hold
    its region, the ends the index after its last corner and the areas its signed area; the corners, y times 512 plus x each, stand
    cycle after cycle. An area is the sum over the cycle's unit edges of x times the change of y: above zero for a region's first
-   cycle, below zero for its other ones. The areas of a region's cycles add to its number of pixels. Owners, ends and areas have
-   room for 4^n entries each, the corners for 4 times 4^n. */
+   cycle, below zero for its other ones. The areas of a region's cycles add to its number of pixels, those of all cycles to 4^n.
+   Owners, ends and areas have room for 4^n entries each, the corners for 4 times 4^n. */
 struct nettlestair_traced nettlestair_trace(uint32_t n, const uint32_t *codes, size_t codes_len, const uint8_t *levels,
                                             size_t levels_len, const uint16_t *colours, size_t colours_len,
                                             uint32_t *labels, size_t labels_len, uint32_t *work, size_t work_len,

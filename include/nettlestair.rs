@@ -332,8 +332,8 @@ pub fn number(n: u32, codes: &[u32], levels: &[u8], colours: &[u16], labels: &mu
 /// The outlines of all regions: 0, or 1 to 8. Labels and work list are as for `number`. For each cycle the owners hold its region,
 /// the ends the index after its last corner and the areas its signed area; the corners, y times 512 plus x each, stand cycle after
 /// cycle. An area is the sum over the cycle's unit edges of x times the change of y: above zero for a region's first cycle, below
-/// zero for its other ones. The areas of a region's cycles add to its number of pixels. Owners, ends and areas have room for 4^n
-/// entries each, the corners for 4 times 4^n.
+/// zero for its other ones. The areas of a region's cycles add to its number of pixels, those of all cycles to 4^n. Owners, ends and
+/// areas have room for 4^n entries each, the corners for 4 times 4^n.
 #[allow(clippy::too_many_arguments)]
 pub fn trace(
     n: u32,

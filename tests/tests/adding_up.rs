@@ -4,19 +4,21 @@
 use std::collections::BTreeMap;
 use tests::calls::{agrees, raster_from_blocks, trace};
 use tests::cases::Cases;
-use tests::compare::Shown;
+use tests::compare::{difference, Shown};
 use tests::expected::needs;
 use tests::figures;
-use tests::model::blocks::{paint, quadtree, Blocks};
+use tests::model::blocks::{quadtree, Blocks};
 use tests::model::regions::Regions;
 use tests::random::Random;
 use tests::rasters;
 
-/// What blocks to raster and the tracing leave of one list: the raster, and up to the counts the labels, owners and areas.
+/// What blocks to raster and the tracing leave of one list: the raster, the owners and the areas up to their counts, the label of each
+/// block, and the count of regions.
 struct Dial {
     n: u32,
     blocks: Blocks,
     raster: Vec<u16>,
+    regions: u32,
     labels: Vec<u32>,
     owners: Vec<u32>,
     areas: Vec<i32>,
@@ -36,6 +38,7 @@ impl Dial {
         Dial {
             n,
             raster: painted.list.lend()[..painted.written.count as usize].to_vec(),
+            regions: out.answer.regions,
             labels: out.lists[0].lend()[..blocks.len()].to_vec(),
             owners: out.lists[2].lend()[..cycles].to_vec(),
             areas: out.areas[0].lend()[..cycles].to_vec(),
@@ -43,48 +46,45 @@ impl Dial {
         }
     }
 
-    /// What does not add up: the areas of a region, counted by the labels or by the colours of the raster alone, or all areas.
+    /// What the areas of each owner add to.
+    fn added(&self) -> Vec<(u32, i64)> {
+        sums(self.owners.iter().copied().zip(self.areas.iter().copied().map(i64::from)))
+    }
+
+    /// What does not add up: all areas, or those of a region. The regions, their count and the labels are those of the raster's colours.
     fn difference(&self) -> Option<String> {
-        let added = sums(self.owners.iter().copied().zip(self.areas.iter().copied()));
-        let by_labels = paint(
-            self.n,
-            &Blocks { colours: self.labels.iter().map(|&label| label as u16).collect(), ..self.blocks.clone() },
-        );
-        let counted = counts(by_labels.iter().map(|&label| u32::from(label)));
+        let all: i64 = self.areas.iter().copied().map(i64::from).sum();
         let regions = Regions::of(self.n, &self.raster);
         let side = 0..i64::from(regions.side());
-        let in_rows = side.clone().flat_map(|y| side.clone().map(move |x| (x, y)));
-        let by_colours = counts(in_rows.filter_map(|(x, y)| regions.at(x, y)));
-        let all: i32 = self.areas.iter().sum();
-        unlike("counted by the labels", &counted, &added)
-            .or_else(|| unlike("counted by the colours", &by_colours, &added))
-            .or_else(|| (all != 1 << (2 * self.n)).then(|| format!("all areas add to {all}")))
+        let pixels = side.clone().flat_map(|y| side.clone().map(move |x| (x, y)));
+        let counted = sums(pixels.filter_map(|(x, y)| regions.at(x, y)).map(|region| (region, 1)));
+        (all != 1 << (2 * self.n))
+            .then(|| format!("all areas add to {all}"))
+            .or_else(|| {
+                (self.regions != regions.count).then(|| format!("{} regions for {}", self.regions, regions.count))
+            })
+            .or_else(|| difference(&regions.labels(&self.blocks), &self.labels).map(|d| format!("labels, {d}")))
+            .or_else(|| difference(&counted, &self.added()).map(|d| format!("pixels and areas of regions, {d}")))
+    }
+
+    /// Fails where something does not add up.
+    fn adds_up(&self) {
+        agrees(format_args!("n = {}, {}", self.n, Shown(&self.raster)), self.difference());
+    }
+
+    /// The most cycles that one region has.
+    fn most_of_one_region(&self) -> i64 {
+        sums(self.owners.iter().map(|&owner| (owner, 1))).iter().map(|&(_, cycles)| cycles).max().unwrap_or(0)
     }
 }
 
-/// The sum for each region.
-fn sums(areas: impl Iterator<Item = (u32, i32)>) -> BTreeMap<u32, i32> {
+/// The sum for each region, with its number.
+fn sums(parts: impl Iterator<Item = (u32, i64)>) -> Vec<(u32, i64)> {
     let mut sums = BTreeMap::new();
-    areas.for_each(|(region, area)| *sums.entry(region).or_default() += area);
-    sums
-}
-
-/// How often each region is met.
-fn counts(pixels: impl Iterator<Item = u32>) -> BTreeMap<u32, i32> {
-    sums(pixels.map(|region| (region, 1)))
-}
-
-fn unlike(what: &str, pixels: &BTreeMap<u32, i32>, added: &BTreeMap<u32, i32>) -> Option<String> {
-    let regions = pixels.keys().chain(added.keys());
-    let found = regions.map(|region| (region, pixels.get(region), added.get(region))).find(|(_, a, b)| a != b);
-    found.map(|(region, pixels, area)| {
-        format!("{what}, region {region} has {pixels:?} pixels, and its areas add to {area:?}")
-    })
-}
-
-/// The areas of a raster add up.
-fn adds_up(random: &mut Random, n: u32, raster: &[u16]) {
-    agrees(format_args!("n = {n}, {}", Shown(raster)), Dial::of(random, n, raster).difference());
+    for (region, part) in parts {
+        *sums.entry(region).or_insert(0) += part;
+    }
+    sums.into_iter().collect()
 }
 
 #[test]
@@ -92,67 +92,94 @@ fn small_rasters() {
     let mut cases = Cases::of("areas that add up in small rasters");
     let mut random = Random::of("areas that add up in small rasters");
     for (n, raster) in rasters::small() {
-        adds_up(&mut random, n, &raster);
+        Dial::of(&mut random, n, &raster).adds_up();
         cases.ran();
     }
     cases.end();
 }
 
-/// Random ones, structured ones and those that are hardest on the tracing, up to the largest image.
+/// Up to the largest image, those among them that have the most cycles, in all and of one region.
 #[test]
-fn random_and_structured_rasters() {
-    let mut cases = Cases::of("areas that add up in random and structured rasters");
-    let mut random = Random::of("areas that add up in random and structured rasters");
+fn structured_and_random_rasters() {
+    let mut cases = Cases::of("areas that add up in structured and random rasters");
+    let mut random = Random::of("areas that add up in structured and random rasters");
+    let (mut most_cycles, mut most_of_one_region) = (0, 0);
     for n in 0..=8 {
         for _ in 0..[3, 40, 40, 20, 10, 6, 3, 1, 1][n as usize] {
             for raster in rasters::with_structured(&mut random, n) {
-                adds_up(&mut random, n, &raster);
+                let dial = Dial::of(&mut random, n, &raster);
+                dial.adds_up();
+                most_cycles = most_cycles.max(dial.areas.len());
+                most_of_one_region = most_of_one_region.max(dial.most_of_one_region());
                 cases.ran();
             }
         }
     }
+    assert_eq!(most_cycles, 65536, "the checkerboard has a cycle for each pixel");
+    assert_eq!(most_of_one_region, 1 + 127 * 127, "pixels apart, each a hole");
     cases.end();
 }
 
-/// Sums worked out by hand: figure 5(a) has a region of 12 pixels around one of 4, figure 5(b) has 11, 1 and 4.
+/// Regions whose pixels are counted by hand.
 #[test]
-fn figures_by_hand() {
+fn figures() {
     let mut cases = Cases::of("areas that add up in figures");
     let mut random = Random::of("areas that add up in figures");
-    for (raster, pixels) in [(&figures::FIGURE_5A, &[12, 4][..]), (&figures::FIGURE_5B, &[11, 1, 4])] {
-        let dial = Dial::of(&mut random, 2, raster);
-        let expected: BTreeMap<u32, i32> = (0..).zip(pixels.iter().copied()).collect();
-        assert_eq!(sums(dial.owners.into_iter().zip(dial.areas)), expected);
+    // squares of 8, 6, 4 and 2, one within the other
+    let within = ["AAAAAAAA", "ABBBBBBA", "ABAAAABA", "ABABBABA", "ABABBABA", "ABAAAABA", "ABBBBBBA", "AAAAAAAA"];
+    let squares: Vec<u16> = within.concat().bytes().map(u16::from).collect();
+    let rows: [(u32, &[u16], &[i64]); 3] =
+        [(2, &figures::FIGURE_5A, &[12, 4]), (2, &figures::FIGURE_5B, &[11, 1, 4]), (3, &squares, &[28, 20, 12, 4])];
+    for (n, raster, pixels) in rows {
+        let expected: Vec<(u32, i64)> = (0..).zip(pixels.iter().copied()).collect();
+        assert_eq!(Dial::of(&mut random, n, raster).added(), expected);
+        cases.ran();
+    }
+    for (_, n, raster) in figures::all() {
+        Dial::of(&mut random, n, &raster).adds_up();
         cases.ran();
     }
     cases.end();
 }
 
-/// The comparison can fail: one area, one owner or one label that is not right is found.
+/// Each of the comparisons can fail: an area, an owner, a label or a count that is not right is found.
 #[test]
 fn damage_is_found() {
     let mut cases = Cases::of("areas that do not add up");
     let mut random = Random::of("areas that do not add up");
-    for n in 1..=3 {
+    let mut found = |dial: &Dial, by: &str| {
+        let said = dial.difference().expect("what does not add up is found");
+        assert!(said.starts_with(by), "n = {}, {}: {said}", dial.n, Shown(&dial.raster));
+        cases.ran();
+    };
+    for n in 0..=3 {
         for raster in rasters::with_structured(&mut random, n) {
             let mut dial = Dial::of(&mut random, n, &raster);
             for k in 0..dial.areas.len() {
-                let (area, owner) = (dial.areas[k], dial.owners[k]);
-                dial.areas[k] += [-1, 1][random.below(2)];
-                assert!(dial.difference().is_some(), "area {k} of n = {n}, {raster:?}");
-                dial.areas[k] = area;
+                let more = [-1, 1][random.below(2)];
+                dial.areas[k] += more;
+                found(&dial, "all areas");
+                // what one cycle has too much, another has too little
+                let other = (k + 1) % dial.areas.len();
+                dial.areas[other] -= more;
+                if dial.owners[other] != dial.owners[k] {
+                    found(&dial, "pixels and areas");
+                }
+                dial.areas[other] += more;
+                dial.areas[k] -= more;
                 dial.owners[k] += 1;
-                assert!(dial.difference().is_some(), "owner {k} of n = {n}, {raster:?}");
-                dial.owners[k] = owner;
-                cases.ran();
+                found(&dial, "pixels and areas");
+                dial.owners[k] -= 1;
             }
             for k in 0..dial.labels.len() {
                 dial.labels[k] += 1;
-                assert!(dial.difference().is_some(), "label {k} of n = {n}, {raster:?}");
+                found(&dial, "labels");
                 dial.labels[k] -= 1;
-                cases.ran();
             }
-            agrees(format_args!("n = {n}, {}", Shown(&raster)), dial.difference());
+            dial.regions += 1;
+            found(&dial, &format!("{} regions", dial.regions));
+            dial.regions -= 1;
+            dial.adds_up();
         }
     }
     cases.end();

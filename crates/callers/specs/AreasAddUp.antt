@@ -1,6 +1,6 @@
 -- "Areas that add up" (document 02, request d): the tracing and blocks to raster of one list, where a caller of both stands.
-use mathlib.Core.Path.{_≡_, sym, ap, ap₂, _∙_}
-use mathlib.Core.List.{List, map}
+use mathlib.Core.Path.{_≡_, refl, sym, ap, ap₂, _∙_}
+use mathlib.Core.List.{List, [], _∷_, map}
 use Prim.Native.Nat.{ℕ, _/_, _%_, _^_, _≤_, _<_}
 use lib.ListN.{length, getD, take}
 use lib.IntN.{ℤ, pos}
@@ -9,13 +9,10 @@ use Rattle.sequences.specs.Ranges.{range, tabulate, tabulate-at, tabulate-same}
 use Rattle.interleaving.specs.Codes.{code}
 use Rattle.interleaving.specs.Interleaving.{code-below}
 use Rattle.quadtree.specs.Blocks.{Block, blocks, paint}
-use Rattle.quadtree.specs.Number.{number}
 use Rattle.quadtree.specs.Raster.{inCodeOrder, inRows}
 use Rattle.quadtree.specs.Orders.{length-in-rows, code-order-after-rows}
-use Rattle.quadtree.specs.Accepted.{number-zero}
 use Rattle.quadtree.specs.BlockLists.{listOf, accepted-covers, length-image}
 use Rattle.components.specs.Numbers.{numbers, regions}
-use Rattle.components.specs.Numbered.{number-below-regions}
 use Rattle.grid.specs.Listing.{owners, areas}
 use Rattle.grid.specs.Stretches.{length-owners, length-areas}
 use Rattle.winding.specs.Tallies.{occurrences}
@@ -27,17 +24,27 @@ use Rattle.painting.specs.Callers.{painted}
 use Rattle.regions.specs.Callers.{labelOfPixel}
 use Rattle.tracing.specs.Tracing.{Lent, outlinesOf, Tracing, Needs}
 use Rattle.tracing.specs.declared.Traced.{Traced}
-use Rattle.callers.specs.Demand3.{numbersOf, not-refused, accepted-only, cycles-are, owners-are, areas-are, regions-are, accepted-at-exit}
+use Rattle.callers.specs.Demand3.{numbersOf, not-refused, small, known, cycles-are, owners-are, areas-are, accepted-at-exit}
 
--- The region numbers of the pixels of a raster "row by row, north row first", by the labels at exit: at each place that of the block which
--- holds the pixel.
-unfoldable pub regionsInRows : ℕ → List Block → List ℕ → List ℕ → List ℕ
+-- The region numbers of a raster's pixels, "row by row, north row first" (document 01) as the raster itself, by its colours alone: paths of
+-- one colour join pixels (demand 2).
+unfoldable pub numbersInRows : ℕ → List ℕ → List ℕ
+unfolding inRows numbers inCodeOrder
+numbersInRows n raster = inRows n (numbers n (inCodeOrder n raster))
+
+-- The same by the labels at exit, for as many places as the raster has: at each the label of the block that holds the pixel.
+unfoldable pub labelsInRows : ℕ → List Block → List ℕ → List ℕ → List ℕ
 unfolding tabulate labelOfPixel code
-regionsInRows n bs labelList raster = tabulate (length raster) (λ i. labelOfPixel bs labelList (code n (i % 2 ^ n) (i / 2 ^ n)))
+labelsInRows n bs labelList raster = tabulate (length raster) (λ i. labelOfPixel bs labelList (code n (i % 2 ^ n) (i / 2 ^ n)))
 
--- "its number of pixels, counted from the raster and not from the areas": of the places of the raster, how many have the region number v.
-abbrev pub pixelsOf : ℕ → List Block → List ℕ → List ℕ → ℕ → ℕ
-pixelsOf n bs labelList raster v = occurrences v (regionsInRows n bs labelList raster)
+-- Four blocks of 2 by 2, the west ones of one colour and the east ones of another.
+halves : (numbersInRows 2 (1 ∷ 1 ∷ 2 ∷ 2 ∷ 1 ∷ 1 ∷ 2 ∷ 2 ∷ 1 ∷ 1 ∷ 2 ∷ 2 ∷ 1 ∷ 1 ∷ 2 ∷ 2 ∷ [])
+    ≡ 0 ∷ 0 ∷ 1 ∷ 1 ∷ 0 ∷ 0 ∷ 1 ∷ 1 ∷ 0 ∷ 0 ∷ 1 ∷ 1 ∷ 0 ∷ 0 ∷ 1 ∷ 1 ∷ [])
+    × (labelsInRows 2 (blocks (0 ∷ 4 ∷ 8 ∷ 12 ∷ []) (1 ∷ 1 ∷ 1 ∷ 1 ∷ []) (1 ∷ 2 ∷ 1 ∷ 2 ∷ [])) (0 ∷ 1 ∷ 0 ∷ 1 ∷ [])
+    (1 ∷ 1 ∷ 2 ∷ 2 ∷ 1 ∷ 1 ∷ 2 ∷ 2 ∷ 1 ∷ 1 ∷ 2 ∷ 2 ∷ 1 ∷ 1 ∷ 2 ∷ 2 ∷ [])
+    ≡ 0 ∷ 0 ∷ 1 ∷ 1 ∷ 0 ∷ 0 ∷ 1 ∷ 1 ∷ 0 ∷ 0 ∷ 1 ∷ 1 ∷ 0 ∷ 0 ∷ 1 ∷ 1 ∷ [])
+unfolding numbersInRows labelsInRows blocks
+halves = (refl, refl)
 
 -- The areas at exit up to the count of cycles, and of these the ones whose owner is v.
 abbrev pub areasAt : Lent → Traced → List ℤ
@@ -48,26 +55,19 @@ areasOwned after r v = areasOf v (take (r .cycles) (after .ownerList)) (take (r 
 
 -- What adds up in the lists that the tracing left, for the raster of the same block list.
 pub record AreasAddUp (n : ℕ) (cs ls ks raster : List ℕ) (after : Lent) (r : Traced) : Type 0 where
-  -- The region numbers by the labels are those of the raster itself: of its pixels of one colour that paths join (demand 2).
-  pub numbers-of-raster : regionsInRows n (blocks cs ls ks) (after .labelList) raster ≡ inRows n (numbers n (inCodeOrder n raster))
-  -- "the areas of a region's cycles must add to its number of pixels"
-  pub region-adds : (v : ℕ) → total (areasOwned after r v) ≡ pos (pixelsOf n (blocks cs ls ks) (after .labelList) raster v)
+  -- "the areas of a region's cycles must add to its number of pixels, counted from the raster and not from the areas": of the places of the
+  -- raster, those with the number v, by its colours and by the labels at exit.
+  pub region-adds : (v : ℕ) → total (areasOwned after r v) ≡ pos (occurrences v (numbersInRows n raster))
+  pub region-adds-by-labels : (v : ℕ) → total (areasOwned after r v) ≡ pos (occurrences v (labelsInRows n (blocks cs ls ks) (after .labelList) raster))
+  -- Both give each place the same number.
+  pub one-numbering : labelsInRows n (blocks cs ls ks) (after .labelList) raster ≡ numbersInRows n raster
   -- "Over all regions they add to 4^n": region after region, and cycle after cycle.
   pub regions-add : total (map (λ v. total (areasOwned after r v)) (range 0 (r .regions))) ≡ pos (4 ^ n)
   pub all-add : total (areasAt after r) ≡ pos (4 ^ n)
 
--- ---- the tracing alone
+-- ---- the tracing alone: the pixels are those of the image that the list paints
 
 module _ {n : ℕ} {cs ls ks : List ℕ} {before after : Lent} {r : Traced} (p : Tracing n cs ls ks before after r) (ok : r .number ≡ 0) where
-  accepted : number n cs ls ks ≡ 0
-  accepted = accepted-only p ok .accepted
-
-  small : n ≤ 8
-  small = number-zero n cs ls ks accepted .small
-
-  known : (c : ℕ) → c < 4 ^ n → getD (numbersOf n cs ls ks) c 0 < regions n (paint (blocks cs ls ks))
-  known c h = number-below-regions n (paint (blocks cs ls ks)) c h
-
   owners-at-exit : take (r .cycles) (after .ownerList) ≡ owners (outlinesOf n cs ls ks)
   owners-at-exit =
       ap₂ take (cycles-are p ok ∙ sym (length-owners (outlinesOf n cs ls ks))) (owners-are p ok) ∙ take-over (owners (outlinesOf n cs ls ks)) (before .ownerList)
@@ -79,25 +79,25 @@ module _ {n : ℕ} {cs ls ks : List ℕ} {before after : Lent} {r : Traced} (p :
   owned-at-exit : (v : ℕ) → areasOwned after r v ≡ areasOf v (owners (outlinesOf n cs ls ks)) (areas (outlinesOf n cs ls ks))
   owned-at-exit v = ap₂ (areasOf v) owners-at-exit areas-at-exit
 
-  pub region-areas-add : (v : ℕ) → total (areasOwned after r v) ≡ pos (occurrences v (inRows n (numbersOf n cs ls ks)))
+  pub areas-of-region-at-exit-add : (v : ℕ) → total (areasOwned after r v) ≡ pos (occurrences v (inRows n (numbersOf n cs ls ks)))
   unfolding outlinesOf
-  region-areas-add v =
-      ap total (owned-at-exit v) ∙ areas-of-region-add n (numbersOf n cs ls ks) small (regions n (paint (blocks cs ls ks))) known v
+  areas-of-region-at-exit-add v =
+      ap total (owned-at-exit v) ∙ areas-of-region-add n (numbersOf n cs ls ks) (small p ok) (regions n (paint (blocks cs ls ks))) (known p ok) v
 
-  pub regions-areas-add : total (map (λ v. total (areasOwned after r v)) (range 0 (r .regions))) ≡ pos (4 ^ n)
+  pub areas-of-regions-at-exit-add : total (map (λ v. total (areasOwned after r v)) (range 0 (r .regions))) ≡ pos (4 ^ n)
   unfolding outlinesOf
-  regions-areas-add =
-      (λ i. total (map (λ v. total (owned-at-exit v i)) (range 0 (regions-are p ok i))))
-      ∙ areas-of-regions-add n (numbersOf n cs ls ks) small (regions n (paint (blocks cs ls ks))) known
+  areas-of-regions-at-exit-add =
+      (λ i. total (map (λ v. total (owned-at-exit v i)) (range 0 (accepted-at-exit p ok .region-count i))))
+      ∙ areas-of-regions-add n (numbersOf n cs ls ks) (small p ok) (regions n (paint (blocks cs ls ks))) (known p ok)
 
   pub all-areas-at-exit-add : total (areasAt after r) ≡ pos (4 ^ n)
   unfolding outlinesOf
-  all-areas-at-exit-add = ap total areas-at-exit ∙ all-areas-add n (numbersOf n cs ls ks) small (regions n (paint (blocks cs ls ks))) known
+  all-areas-at-exit-add = ap total areas-at-exit ∙ all-areas-add n (numbersOf n cs ls ks) (small p ok) (regions n (paint (blocks cs ls ks))) (known p ok)
 
   -- Row by row, the labels at exit are the region numbers.
-  labels-in-rows : (raster : List ℕ) → length raster ≡ 4 ^ n → regionsInRows n (blocks cs ls ks) (after .labelList) raster ≡ inRows n (numbersOf n cs ls ks)
-  unfolding regionsInRows inRows
-  labels-in-rows raster whole =
+  labels-are-numbers : (raster : List ℕ) → length raster ≡ 4 ^ n → labelsInRows n (blocks cs ls ks) (after .labelList) raster ≡ inRows n (numbersOf n cs ls ks)
+  unfolding labelsInRows inRows
+  labels-are-numbers raster whole =
       ap (λ (k : ℕ). tabulate k (λ i. labelOfPixel (blocks cs ls ks) (after .labelList) (code n (i % 2 ^ n) (i / 2 ^ n)))) whole
       ∙ tabulate-same (4 ^ n) _ (λ i. getD (numbersOf n cs ls ks) (code n (i % 2 ^ n) (i / 2 ^ n)) 0) (λ i h. at (code n (i % 2 ^ n) (i / 2 ^ n)) (code-below n (i % 2 ^ n) (i / 2 ^ n)))
     where
@@ -108,6 +108,11 @@ module _ {n : ℕ} {cs ls ks : List ℕ} {before after : Lent} {r : Traced} (p :
 
 -- ---- both calls
 
+-- Row by row, the numbers by the colours of an image's raster are those of the image.
+numbers-of-raster : (n : ℕ) (raster px : List ℕ) → raster ≡ inRows n px → length px ≡ 4 ^ n → numbersInRows n raster ≡ inRows n (numbers n px)
+unfolding numbersInRows
+numbers-of-raster n raster px e whole = ap (λ (l : List ℕ). inRows n (numbers n l)) (ap (inCodeOrder n) e ∙ code-order-after-rows n px whole)
+
 -- For every accepted list, and lent lists of at least the stated lengths, whatever stood in them: both calls answer 0, the raster has 4^n
 -- pixels, and the areas add up.
 pub areas-add-up : {n : ℕ} {cs ls ks : List ℕ} {before after : Lent} {r : Traced} → Needs n cs ls ks before → Tracing n cs ls ks before after r
@@ -117,17 +122,19 @@ areas-add-up {n} {cs} {ls} {ks} {before} {after} {r} met p {old} {raster} {s} ro
     let ok : r .number ≡ 0 = not-refused p met in
     let px : List ℕ = paint (blocks cs ls ks) in
     let done = painted (met .accepted) room q in
-    let whole : length (take (s .count) raster) ≡ 4 ^ n = ap length (done .2) ∙ length-in-rows n px in
-    let alike : regionsInRows n (blocks cs ls ks) (after .labelList) (take (s .count) raster) ≡ inRows n (numbersOf n cs ls ks) =
-    labels-in-rows p ok (take (s .count) raster) whole in
-    let image : inCodeOrder n (take (s .count) raster) ≡ px = ap (inCodeOrder n) (done .2) ∙ code-order-after-rows n px (length-image n (listOf cs ls ks) (accepted-covers n (listOf cs ls ks) (met .accepted))) in (
+    let pixels : List ℕ = take (s .count) raster in
+    let whole : length pixels ≡ 4 ^ n = ap length (done .2) ∙ length-in-rows n px in
+    let by-labels : labelsInRows n (blocks cs ls ks) (after .labelList) pixels ≡ inRows n (numbersOf n cs ls ks) = labels-are-numbers p ok pixels whole in
+    let by-colours : numbersInRows n pixels ≡ inRows n (numbersOf n cs ls ks) =
+    numbers-of-raster n pixels px (done .2) (length-image n (listOf cs ls ks) (accepted-covers n (listOf cs ls ks) (met .accepted))) in (
       ok,
       done .0,
       done .1,
       record {
-        numbers-of-raster = alike ∙ ap (λ (l : List ℕ). inRows n (numbers n l)) (sym image);
-        region-adds = λ v. region-areas-add p ok v ∙ ap (λ (l : List ℕ). pos (occurrences v l)) (sym alike);
-        regions-add = regions-areas-add p ok;
+        region-adds = λ v. areas-of-region-at-exit-add p ok v ∙ ap (λ (l : List ℕ). pos (occurrences v l)) (sym by-colours);
+        region-adds-by-labels = λ v. areas-of-region-at-exit-add p ok v ∙ ap (λ (l : List ℕ). pos (occurrences v l)) (sym by-labels);
+        one-numbering = by-labels ∙ sym by-colours;
+        regions-add = areas-of-regions-at-exit-add p ok;
         all-add = all-areas-at-exit-add p ok;
       },
     )

@@ -221,7 +221,7 @@ module _ {n : ℕ} {cs ls ks : List ℕ} {before after : Lent} {r : Traced} (p :
     passes : Passes n cs ls ks
     passes = number-zero n cs ls ks (met .accepted)
 
-    small : n ≤ 8
+    pub small : n ≤ 8
     small = passes .small
 
     written : cyclesWritten n cs ls ks before ≡ outlinesOf n cs ls ks
@@ -255,7 +255,7 @@ module _ {n : ℕ} {cs ls ks : List ℕ} {before after : Lent} {r : Traced} (p :
     unfolding zerosLeft
     work-is = p .in-work ∙ ap (λ (l : List ℕ). over l (before .workList)) (written-accepted (tracingNumber n cs ls ks before) (replicate (2 * 4 ^ n) 0) zero-number)
 
-    pub regions-are : r .regions ≡ regions n (paint (blocks cs ls ks))
+    regions-are : r .regions ≡ regions n (paint (blocks cs ls ks))
     unfolding regionsListed
     regions-are = ap (λ (a : Traced). a .regions) (p .answer) ∙ count-accepted (tracingNumber n cs ls ks before) (regions n (paint (blocks cs ls ks))) zero-number
 
@@ -292,7 +292,7 @@ module _ {n : ℕ} {cs ls ks : List ℕ} {before after : Lent} {r : Traced} (p :
         ap (λ (os : List ℕ). getD os k 0) owners-are
         ∙ over-inside (owners (outlinesOf n cs ls ks)) (before .ownerList) k (omega (arith, length-owners (outlinesOf n cs ls ks), cycles-are))
 
-    known : (c : ℕ) → c < 4 ^ n → getD (numbersOf n cs ls ks) c 0 < regions n (paint (blocks cs ls ks))
+    pub known : (c : ℕ) → c < 4 ^ n → getD (numbersOf n cs ls ks) c 0 < regions n (paint (blocks cs ls ks))
     known c h = number-below-regions n (paint (blocks cs ls ks)) c h
 
     end-is : (k : ℕ) → k < r .cycles → getD (after .endList) k 0 ≡ getD (ends (outlinesOf n cs ls ks)) k 0

@@ -5,7 +5,7 @@ pub mod Tallies
 pub mod Edges
 pub mod Crossings
 pub mod Pixels
--- How the winding number changes from place to place: for any closed walk, for one along edges of a region, down a column.
+-- How the winding number changes from place to place: for any closed walk, for edges of a region, down a column.
 pub mod Changes
 pub mod Neighbours
 pub mod Columns

@@ -1,4 +1,4 @@
--- The winding numbers around two places that share a side, for a closed walk along edges of one region.
+-- The winding numbers around two places that share a side, for edges of one region; across a north side, for a closed walk along them.
 use mathlib.Core.Path.{_≡_}
 use mathlib.Core.Logic.{_≢_}
 use mathlib.Core.List.{List}
@@ -30,7 +30,7 @@ module _ (es : List ℕ) where
   OneMore A B X Y = crossings 3 es A B + crossings 1 es X Y ≡ suc (crossings 3 es X Y + crossings 1 es A B)
 
 -- The places (A, B) and (X, Y) share a side: the edge `right` on it has the first on its right, the edge `left` the second. The
--- winding number changes by those of them that stand in the walk, and what stands in it has the region on its right only.
+-- winding number changes by those of them that stand in the list, and what stands in it has the region on its right only.
 pub record Neighbours (m : ℕ → ℕ → ℕ) (r : ℕ) (es : List ℕ) (right left A B X Y : ℕ) : Type 0 where
   pub changes : crossings 3 es A B + crossings 1 es X Y + occurrences left es ≡ crossings 3 es X Y + crossings 1 es A B + occurrences right es
   pub on-right : In right es → (m A B ≡ r) × (m X Y ≢ r)
@@ -64,7 +64,7 @@ module _ {m : ℕ → ℕ → ℕ} {r : ℕ} {es : List ℕ} {right left A B X Y
   pub neighbours-back : Neighbours m r es left right X Y A B
   neighbours-back = record { changes = omega (arith, n .changes); on-right = n .on-left; on-left = n .on-right }
 
-  -- The walk has no edge on the side; it has the one with the first place on its right.
+  -- The list has no edge on the side; it has the one with the first place on its right.
   pub not-crossed : (In right es → ⊥) → (In left es → ⊥) → SameWinding es A B X Y
   not-crossed a b = omega (arith, n .changes, occurrences-none right es a, occurrences-none left es b)
 

@@ -85,7 +85,6 @@ module _ (w d : ℕ) (vertical : d % 2 ≡ 1) where
       ap₂ _+_ (edge-over-pixels e (fits e (in-first e es))) (x-sum-over-pixels es (λ a i. fits a (in-later a e es i)))
       ∙ sym (pixels-add w (λ X Y. crosses d X Y e) (crossings d es))
 
-  -- No such edge crosses a ray north of the image, or one that begins east of it.
   no-crossings : (X Y : ℕ) (es : List ℕ) → AllFit w es → ((e : ℕ) → WithinImage w e → atMost X (xOf (tail e)) * same Y (rowOf e) ≡ 0) → crossings d es X Y ≡ 0
   unfolding crossings
   no-crossings X Y es fits none = tally-none (crosses d X Y) es (λ e i. pick e (fits e i) (ℕ-discrete (digit e) d))
@@ -94,6 +93,7 @@ module _ (w d : ℕ) (vertical : d % 2 ≡ 1) where
       pick e fit (no h) = crosses-no d X Y e h
       pick e fit (yes h) = crosses-yes d X Y e h ∙ none e (fit (ap (λ k. k % 2) h ∙ vertical))
 
+  -- No such edge crosses a ray north of the image, or one that begins east of it.
   pub no-crossings-north : (X : ℕ) (es : List ℕ) → AllFit w es → crossings d es X 0 ≡ 0
   no-crossings-north X es fits =
       no-crossings X 0 es fits (λ e f. ap (λ (s : ℕ). atMost X (xOf (tail e)) * s) (same-no 0 (rowOf e) (omega (arith, f .row-above))) ∙ omega arith)

@@ -25,10 +25,10 @@ use Rattle.grid.specs.Steps.{Edge}
 use Rattle.grid.specs.Cycles.{cycle}
 use Rattle.grid.specs.Listing.{keep, startCodes, cycleAt, listing, owners, areas}
 use Rattle.grid.specs.Keeping.{keep-yes, keep-no, in-keep, keep-in, ordered-keep, in-start-codes, start-codes-distinct}
-use Rattle.grid.specs.Starting.{StartAt, Started, says-start, some-start, one-start}
+use Rattle.grid.specs.Starting.{StartAt, start-says, one-start}
 use Rattle.grid.specs.Closing.{sides-of-corners}
 use Rattle.grid.specs.North.{side-small}
-use Rattle.grid.specs.Listed.{listing-length, owner-at, start-at}
+use Rattle.grid.specs.Listed.{listing-length, owner-at, CycleThrough, find}
 use Rattle.grid.specs.Stretches.{length-owners, length-areas}
 use Rattle.winding.specs.Sums.{same, same-suc, same-flip, sum, sum-same, sum-rows}
 use Rattle.winding.specs.Tallies.{occurrences, occurrences-in-tabulate, occurrences-add}
@@ -36,7 +36,7 @@ use Rattle.winding.specs.Pixels.{overPixels, AllFit}
 use Rattle.winding.specs.Neighbours.{ClosedWalk}
 use Rattle.winding.specs.Inside.{cycle-closed, vertical-fits}
 use Rattle.winding.specs.AllEdges.{area-is-pixels}
-use Rattle.winding.specs.Totals.{total, areasOf, areas-own, areas-other, total-by-region, total-of-numbers}
+use Rattle.winding.specs.Totals.{total, areasOf, areas-own, areas-other, total-by-region, total-is-sum}
 
 module _ (n : ℕ) (nums : List ℕ) (small : n ≤ 8) where
   abbrev m : ℕ → ℕ → ℕ
@@ -55,7 +55,7 @@ module _ (n : ℕ) (nums : List ℕ) (small : n ≤ 8) where
       here x y a b =
           ap (λ (k : ℕ). same k (suc v)) (region-inside n nums x y a b) ∙ same-suc (getD nums (code n x y) 0) v ∙ same-flip (getD nums (code n x y) 0) v
 
-  -- ---- the cycles of the region v, of those that start at these codes
+  -- ---- the cycles of the region v, among those that start at the codes cs
 
   abbrev ofRegion : ℕ → ℕ → Bool
   ofRegion v c = eqb (getD nums c 0) v
@@ -64,11 +64,11 @@ module _ (n : ℕ) (nums : List ℕ) (small : n ≤ 8) where
   edgesOf v cs = flatMap (cycle n nums) (keep (λ c. eqb (getD nums c 0) v) cs)
 
   -- Their areas add to the area of all their edges.
-  areas-are-area : (v : ℕ) (cs : List ℕ) → ((c : ℕ) → In c cs → StartAt n nums c)
+  areas-add-to-area-of-edges : (v : ℕ) (cs : List ℕ) → ((c : ℕ) → In c cs → StartAt n nums c)
       → total (areasOf v (owners (map (cycleAt n nums) cs)) (areas (map (cycleAt n nums) cs))) ≡ area (edgesOf v cs)
   unfolding total areasOf owners areas cycleAt area flatMap keep
-  areas-are-area v [] starts = refl
-  areas-are-area v (c ∷ cs) starts = pick (ℕ-discrete (getD nums c 0) v) (areas-are-area v cs (λ d i. starts d (in-later d c cs i)))
+  areas-add-to-area-of-edges v [] starts = refl
+  areas-add-to-area-of-edges v (c ∷ cs) starts = pick (ℕ-discrete (getD nums c 0) v) (areas-add-to-area-of-edges v cs (λ d i. starts d (in-later d c cs i)))
     where
       os : List ℕ
       os = owners (map (cycleAt n nums) cs)
@@ -98,7 +98,7 @@ module _ (n : ℕ) (nums : List ℕ) (small : n ≤ 8) where
     codes = startCodes n nums regions
 
     start : (c : ℕ) → In c codes → StartAt n nums c
-    start c (k, h, e) = subst (StartAt n nums) e (start-at n nums regions small k (omega (arith, h, listing-length n nums regions)))
+    start c i = let h = in-start-codes n nums regions c .0 i in start-says n nums small c (h .0) (h .2)
 
     closed : (c : ℕ) → In c codes → ClosedWalk m (suc (getD nums c 0)) (cycle n nums c)
     closed c i = cycle-closed n nums small c (start c i)
@@ -124,10 +124,10 @@ module _ (n : ℕ) (nums : List ℕ) (small : n ≤ 8) where
 
       all-edges : (e : ℕ) → Edge m (suc v) e → In e (edgesOf v codes)
       all-edges e h =
-          let s : Started n nums small (suc v) e = some-start n nums small (suc v) e h in
-          let c : ℕ = s .start in
-          let i : In c codes = in-start-codes n nums regions c .1 (s .starts .inside, known c (s .starts .inside), says-start n nums small c (s .starts)) in
-          flat-in (cycle n nums) kept c e (keep-in (ofRegion v) codes c i (eq-eqb (getD nums c 0) v (omega (arith, s .number)))) (s .on-cycle)
+          let f : CycleThrough n nums regions small known v e = find n nums regions small known v e h in
+          let c : ℕ = getD codes (f .cycle-number) 0 in
+          let i : In c codes = (f .cycle-number, omega (arith, f .listed, listing-length n nums regions), refl) in
+          flat-in (cycle n nums) kept c e (keep-in (ofRegion v) codes c i (eq-eqb (getD nums c 0) v (f .owned))) (f .stands)
 
       fit : AllFit (2 ^ n) (edgesOf v codes)
       fit e i vertical = vertical-fits n nums (suc v) e (only-edges e i) vertical
@@ -139,15 +139,11 @@ module _ (n : ℕ) (nums : List ℕ) (small : n ≤ 8) where
       pub areas-of-region-add : total (areasOf v (owners (listing n nums regions)) (areas (listing n nums regions))) ≡ pos (occurrences v (inRows n nums))
       unfolding listing
       areas-of-region-add =
-          areas-are-area v codes start
+          areas-add-to-area-of-edges v codes start
           ∙ area-is-pixels m (suc v) (omega arith) (edgesOf v codes) only-edges edges-once all-edges (2 ^ n) (omega (arith, side-small n small)) fit none-east
           ∙ ap pos (region-pixels v)
 
-    -- What the areas of each region add to, region after region.
-    abbrev totals : List ℤ
-    totals = map (λ v. total (areasOf v (owners (listing n nums regions)) (areas (listing n nums regions)))) (range 0 regions)
-
-    -- Each pixel is one of one region.
+    -- Each pixel lies in exactly one region.
     all-counted : sum regions (λ v. occurrences v (inRows n nums)) ≡ 4 ^ n
     all-counted = occurrences-add regions (inRows n nums) below ∙ length-in-rows n nums
       where
@@ -156,10 +152,10 @@ module _ (n : ℕ) (nums : List ℕ) (small : n ≤ 8) where
             omega (arith, e, in-rows-at n nums i (omega (arith, length-in-rows n nums)), known (code n (i % 2 ^ n) (i / 2 ^ n)) (code-below n (i % 2 ^ n) (i / 2 ^ n)))
 
     -- "Over all regions they add to 4^n": region after region, and cycle after cycle.
-    pub areas-of-regions-add : total totals ≡ pos (4 ^ n)
+    pub areas-of-regions-add : total (map (λ v. total (areasOf v (owners (listing n nums regions)) (areas (listing n nums regions)))) (range 0 regions)) ≡ pos (4 ^ n)
     areas-of-regions-add =
         (λ i. total (map (λ v. areas-of-region-add v i) (range 0 regions)))
-        ∙ total-of-numbers (λ v. occurrences v (inRows n nums)) regions
+        ∙ total-is-sum (λ v. occurrences v (inRows n nums)) regions
         ∙ ap pos all-counted
 
     pub all-areas-add : total (areas (listing n nums regions)) ≡ pos (4 ^ n)

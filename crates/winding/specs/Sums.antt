@@ -106,11 +106,6 @@ sum-then j (suc k) f =
     let e : j + suc k ≡ suc (j + k) = omega arith in
     ap (λ (l : ℕ). sum l f) e ∙ omega (arith, sum-then j k f)
 
-pub sum-first : (k : ℕ) (f : ℕ → ℕ) → sum (suc k) f ≡ f 0 + sum k (λ i. f (suc i))
-unfolding sum
-sum-first zero f = omega arith
-sum-first (suc k) f = omega (arith, sum-first k f)
-
 -- Places row by row, in h rows of w: the place i has the column i % w and the row i / w.
 pub sum-rows : (h w : ℕ) (f : ℕ → ℕ → ℕ) → sum (h * w) (λ i. f (i % w) (i / w)) ≡ sum h (λ y. sum w (λ x. f x y))
 unfolding sum

@@ -1,13 +1,13 @@
 -- Sums over the entries of a list, and how often a number stands in a list.
 use mathlib.Core.Path.{_≡_, refl, sym, ap, _∙_, subst}
 use mathlib.Core.Logic.{_≢_, _⊎_, inl, inr}
-use mathlib.Core.List.{List, [], _∷_, map}
+use mathlib.Core.List.{List, [], _∷_, _++_, map}
 use Prim.Native.Nat.{ℕ, zero, suc, _+_, _<_}
 use native.Mathlib.Omega.{arith}
 use lib.ListN.{length}
-use Rattle.sequences.specs.Ranges.{range, tabulate}
+use Rattle.sequences.specs.Ranges.{range, range-append, tabulate}
 use Rattle.orbits.specs.Members.{In, Distinct, in-first, in-later, in-cases, in-none, ordered-rest, ordered-first}
-use Rattle.winding.specs.Sums.{same, same-yes, same-no, same-suc, at-most-yes, sum, sum-same, sum-none, sum-add, sum-first, sum-one}
+use Rattle.winding.specs.Sums.{same, same-yes, same-no, same-suc, at-most-yes, sum, sum-same, sum-none, sum-add, sum-one}
 
 -- f of the first entry + f of the second + ..
 unfoldable pub tally : (ℕ → ℕ) → List ℕ → ℕ
@@ -40,24 +40,22 @@ occurrences-one s (e ∷ es) d i = pick (in-cases s e es i) (occurrences-one s e
     pick (inl q) ih = omega (arith, same-yes s e q, occurrences-none s es (λ j. later j q))
     pick (inr j) ih = omega (arith, same-no s e (later j), ih j)
 
--- Over the numbers below k, it is the sum.
-tally-range : (f : ℕ → ℕ) (a k : ℕ) → tally f (range a k) ≡ sum k (λ i. f (a + i))
-unfolding tally range sum
-tally-range f a zero = refl
-tally-range f a (suc k) =
-    let here : a ≡ a + 0 = omega arith in
-    let next : (i : ℕ) → suc a + i ≡ a + suc i = λ i. omega arith in
-    omega (
-      arith,
-      ap f here,
-      tally-range f (suc a) k ∙ sum-same k _ (λ i. f (a + suc i)) (λ i h. ap f (next i)),
-      sum-first k (λ i. f (a + i)),
-    )
+tally-append : (f : ℕ → ℕ) (xs ys : List ℕ) → tally f (xs ++ ys) ≡ tally f xs + tally f ys
+unfolding tally
+tally-append f [] ys = omega arith
+tally-append f (x ∷ xs) ys = omega (arith, tally-append f xs ys)
 
+-- Over the numbers below k, it is the sum.
 pub tally-below : (f : ℕ → ℕ) (k : ℕ) → tally f (range 0 k) ≡ sum k f
-tally-below f k =
-    let none : (i : ℕ) → 0 + i ≡ i = λ i. omega arith in
-    tally-range f 0 k ∙ sum-same k _ f (λ i h. ap f (none i))
+unfolding tally range sum
+tally-below f zero = refl
+tally-below f (suc k) =
+    let one : suc k ≡ k + 1 = omega arith in
+    let last : 0 + k ≡ k = omega arith in
+    ap (λ (j : ℕ). tally f (range 0 j)) one
+    ∙ ap (tally f) (range-append 0 k 1)
+    ∙ tally-append f (range 0 k) (range (0 + k) 1)
+    ∙ omega (arith, tally-below f k, ap f last)
 
 tally-map : (f rule : ℕ → ℕ) (l : List ℕ) → tally f (map rule l) ≡ tally (λ e. f (rule e)) l
 unfolding tally

@@ -48,14 +48,14 @@ module _ (v o : ℕ) (os : List ℕ) (z : ℤ) (zs : List ℤ) where
 
 -- ---- region after region
 
--- The sum of what each number of a list is given.
+-- f of the first number + f of the second + ..
 abbrev overEach : (ℕ → ℤ) → List ℕ → ℤ
 overEach f vs = total (map f vs)
 
-nothing-each : (vs : List ℕ) → overEach (λ v. pos 0) vs ≡ pos 0
+total-of-zeros : (vs : List ℕ) → overEach (λ v. pos 0) vs ≡ pos 0
 unfolding total
-nothing-each [] = refl
-nothing-each (v ∷ vs) = +ℤ-idl (overEach (λ v. pos 0) vs) ∙ nothing-each vs
+total-of-zeros [] = refl
+total-of-zeros (v ∷ vs) = +ℤ-idl (overEach (λ v. pos 0) vs) ∙ total-of-zeros vs
 
 -- One area more, z, is added to the sum of its owner o and to no other.
 module _ (o : ℕ) (os : List ℕ) (z : ℤ) (zs : List ℤ) where
@@ -97,18 +97,18 @@ module _ (o : ℕ) (os : List ℕ) (z : ℤ) (zs : List ℤ) where
 pub total-by-region : (k : ℕ) (os : List ℕ) (zs : List ℤ) → length os ≡ length zs → ((o : ℕ) → In o os → o < k)
     → total (map (λ v. total (areasOf v os zs)) (range 0 k)) ≡ total zs
 unfolding total areasOf
-total-by-region k [] [] same below = nothing-each (range 0 k)
-total-by-region k [] (z ∷ zs) same below = absurd (omega arith)
-total-by-region k (o ∷ os) [] same below = absurd (omega arith)
-total-by-region k (o ∷ os) (z ∷ zs) same below =
+total-by-region k [] [] long below = total-of-zeros (range 0 k)
+total-by-region k [] (z ∷ zs) long below = absurd (omega arith)
+total-by-region k (o ∷ os) [] long below = absurd (omega arith)
+total-by-region k (o ∷ os) (z ∷ zs) long below =
     among o os z zs (range 0 k) (λ i j h l e. omega (arith, range-rises k i j h l, e)) (in-range o k .1 (below o (in-first o os)))
     ∙ ap (λ x. z +ℤ x) (total-by-region k os zs (omega arith) (λ a i. below a (in-later a o os i)))
 
--- Numbers add up as numbers.
-total-of-naturals : (f : ℕ → ℕ) (vs : List ℕ) → total (map (λ v. pos (f v)) vs) ≡ pos (tally f vs)
+-- Integers that are not below 0 add up as numbers.
+total-is-tally : (f : ℕ → ℕ) (vs : List ℕ) → total (map (λ v. pos (f v)) vs) ≡ pos (tally f vs)
 unfolding total tally
-total-of-naturals f [] = refl
-total-of-naturals f (v ∷ vs) = ap (λ x. pos (f v) +ℤ x) (total-of-naturals f vs)
+total-is-tally f [] = refl
+total-is-tally f (v ∷ vs) = ap (λ x. pos (f v) +ℤ x) (total-is-tally f vs)
 
-pub total-of-numbers : (f : ℕ → ℕ) (k : ℕ) → total (map (λ v. pos (f v)) (range 0 k)) ≡ pos (sum k f)
-total-of-numbers f k = total-of-naturals f (range 0 k) ∙ ap pos (tally-below f k)
+pub total-is-sum : (f : ℕ → ℕ) (k : ℕ) → total (map (λ v. pos (f v)) (range 0 k)) ≡ pos (sum k f)
+total-is-sum f k = total-is-tally f (range 0 k) ∙ ap pos (tally-below f k)
