@@ -47,13 +47,13 @@ impl Dial {
     }
 
     /// What the areas of each owner add to.
-    fn added(&self) -> Vec<(u32, i64)> {
-        sums(self.owners.iter().copied().zip(self.areas.iter().copied().map(i64::from)))
+    fn added(&self) -> Vec<(u32, i32)> {
+        sums(self.owners.iter().copied().zip(self.areas.iter().copied()))
     }
 
     /// What does not add up: all areas, or those of a region. The regions, their count and the labels are those of the raster's colours.
     fn difference(&self) -> Option<String> {
-        let all: i64 = self.areas.iter().copied().map(i64::from).sum();
+        let all = self.areas.iter().copied().fold(0, plus);
         let regions = Regions::of(self.n, &self.raster);
         let side = 0..i64::from(regions.side());
         let pixels = side.clone().flat_map(|y| side.clone().map(move |x| (x, y)));
@@ -73,18 +73,24 @@ impl Dial {
     }
 
     /// The most cycles that one region has.
-    fn most_of_one_region(&self) -> i64 {
+    fn most_of_one_region(&self) -> i32 {
         sums(self.owners.iter().map(|&owner| (owner, 1))).iter().map(|&(_, cycles)| cycles).max().unwrap_or(0)
     }
 }
 
 /// The sum for each region, with its number.
-fn sums(parts: impl Iterator<Item = (u32, i64)>) -> Vec<(u32, i64)> {
+fn sums(parts: impl Iterator<Item = (u32, i32)>) -> Vec<(u32, i32)> {
     let mut sums = BTreeMap::new();
     for (region, part) in parts {
-        *sums.entry(region).or_insert(0) += part;
+        let sum = sums.entry(region).or_default();
+        *sum = plus(*sum, part);
     }
     sums.into_iter().collect()
+}
+
+/// Adds in 32 bits, which every sum on the way fits.
+fn plus(sum: i32, part: i32) -> i32 {
+    sum.checked_add(part).expect("a sum of areas fits 32 bits")
 }
 
 #[test]
@@ -128,10 +134,10 @@ fn figures() {
     // squares of 8, 6, 4 and 2, one within the other
     let within = ["AAAAAAAA", "ABBBBBBA", "ABAAAABA", "ABABBABA", "ABABBABA", "ABAAAABA", "ABBBBBBA", "AAAAAAAA"];
     let squares: Vec<u16> = within.concat().bytes().map(u16::from).collect();
-    let rows: [(u32, &[u16], &[i64]); 3] =
+    let rows: [(u32, &[u16], &[i32]); 3] =
         [(2, &figures::FIGURE_5A, &[12, 4]), (2, &figures::FIGURE_5B, &[11, 1, 4]), (3, &squares, &[28, 20, 12, 4])];
     for (n, raster, pixels) in rows {
-        let expected: Vec<(u32, i64)> = (0..).zip(pixels.iter().copied()).collect();
+        let expected: Vec<(u32, i32)> = (0..).zip(pixels.iter().copied()).collect();
         assert_eq!(Dial::of(&mut random, n, raster).added(), expected);
         cases.ran();
     }

@@ -2,8 +2,11 @@
 use mathlib.Core.Path.{_≡_, refl, sym, ap, ap₂, _∙_}
 use mathlib.Core.List.{List, [], _∷_, map}
 use Prim.Native.Nat.{ℕ, _/_, _%_, _^_, _≤_, _<_}
+use native.Mathlib.Omega.{arith}
 use lib.ListN.{length, getD, take}
 use lib.IntN.{ℤ, pos}
+use lib.Signed.{mag}
+use Rattle.sequences.specs.Differences.{mag-within-size}
 use Rattle.sequences.specs.Over.{take-over}
 use Rattle.sequences.specs.Ranges.{range, tabulate, tabulate-at, tabulate-same}
 use Rattle.interleaving.specs.Codes.{code}
@@ -16,8 +19,8 @@ use Rattle.components.specs.Numbers.{numbers, regions}
 use Rattle.grid.specs.Listing.{owners, areas}
 use Rattle.grid.specs.Stretches.{length-owners, length-areas}
 use Rattle.winding.specs.Tallies.{occurrences}
-use Rattle.winding.specs.Totals.{total, areasOf}
-use Rattle.winding.specs.RegionAreas.{areas-of-region-add, areas-of-regions-add, all-areas-add}
+use Rattle.winding.specs.Totals.{total, areasOf, sizes, size-of-total, sizes-of-region, sizes-of-first}
+use Rattle.winding.specs.RegionAreas.{areas-together-fit, areas-of-region-add, areas-of-regions-add, all-areas-add}
 use Rattle.answers.specs.declared.Written.{Written}
 use Rattle.painting.specs.Promise.{ToRaster}
 use Rattle.painting.specs.Callers.{painted}
@@ -46,24 +49,27 @@ halves : (numbersInRows 2 (1 ∷ 1 ∷ 2 ∷ 2 ∷ 1 ∷ 1 ∷ 2 ∷ 2 ∷ 1 ∷
 unfolding numbersInRows labelsInRows blocks
 halves = (refl, refl)
 
--- The areas at exit up to the count of cycles, and of these the ones whose owner is v.
-abbrev pub areasAt : Lent → Traced → List ℤ
-areasAt after r = take (r .cycles) (after .areaList)
+-- The areas at exit of the first k cycles, and of these the ones whose owner is v.
+abbrev pub areasAt : Lent → ℕ → List ℤ
+areasAt after k = take k (after .areaList)
 
-abbrev pub areasOwned : Lent → Traced → ℕ → List ℤ
-areasOwned after r v = areasOf v (take (r .cycles) (after .ownerList)) (take (r .cycles) (after .areaList))
+abbrev pub areasOwned : Lent → ℕ → ℕ → List ℤ
+areasOwned after k v = areasOf v (take k (after .ownerList)) (take k (after .areaList))
 
 -- What adds up in the lists that the tracing left, for the raster of the same block list.
 pub record AreasAddUp (n : ℕ) (cs ls ks raster : List ℕ) (after : Lent) (r : Traced) : Type 0 where
   -- "the areas of a region's cycles must add to its number of pixels, counted from the raster and not from the areas": of the places of the
   -- raster, those with the number v, by its colours and by the labels at exit.
-  pub region-adds : (v : ℕ) → total (areasOwned after r v) ≡ pos (occurrences v (numbersInRows n raster))
-  pub region-adds-by-labels : (v : ℕ) → total (areasOwned after r v) ≡ pos (occurrences v (labelsInRows n (blocks cs ls ks) (after .labelList) raster))
+  pub region-adds : (v : ℕ) → total (areasOwned after (r .cycles) v) ≡ pos (occurrences v (numbersInRows n raster))
+  pub region-adds-by-labels : (v : ℕ) → total (areasOwned after (r .cycles) v) ≡ pos (occurrences v (labelsInRows n (blocks cs ls ks) (after .labelList) raster))
   -- Both give each place the same number.
   pub one-numbering : labelsInRows n (blocks cs ls ks) (after .labelList) raster ≡ numbersInRows n raster
   -- "Over all regions they add to 4^n": region after region, and cycle after cycle.
-  pub regions-add : total (map (λ v. total (areasOwned after r v)) (range 0 (r .regions))) ≡ pos (4 ^ n)
-  pub all-add : total (areasAt after r) ≡ pos (4 ^ n)
+  pub regions-add : total (map (λ v. total (areasOwned after (r .cycles) v)) (range 0 (r .regions))) ≡ pos (4 ^ n)
+  pub all-add : total (areasAt after (r .cycles)) ≡ pos (4 ^ n)
+  -- Who adds them in 32 bits, cycle after cycle, may do so: after k cycles the sum of a region and that of all are within.
+  pub region-sums-fit : (v k : ℕ) → k ≤ r .cycles → mag (total (areasOwned after k v)) < 2147483648
+  pub all-sums-fit : (k : ℕ) → k ≤ r .cycles → mag (total (areasAt after k)) < 2147483648
 
 -- ---- the tracing alone: the pixels are those of the image that the list paints
 
@@ -72,27 +78,37 @@ module _ {n : ℕ} {cs ls ks : List ℕ} {before after : Lent} {r : Traced} (p :
   owners-at-exit =
       ap₂ take (cycles-are p ok ∙ sym (length-owners (outlinesOf n cs ls ks))) (owners-are p ok) ∙ take-over (owners (outlinesOf n cs ls ks)) (before .ownerList)
 
-  areas-at-exit : areasAt after r ≡ areas (outlinesOf n cs ls ks)
+  areas-at-exit : areasAt after (r .cycles) ≡ areas (outlinesOf n cs ls ks)
   areas-at-exit =
       ap₂ take (cycles-are p ok ∙ sym (length-areas (outlinesOf n cs ls ks))) (areas-are p ok) ∙ take-over (areas (outlinesOf n cs ls ks)) (before .areaList)
 
-  owned-at-exit : (v : ℕ) → areasOwned after r v ≡ areasOf v (owners (outlinesOf n cs ls ks)) (areas (outlinesOf n cs ls ks))
+  owned-at-exit : (v : ℕ) → areasOwned after (r .cycles) v ≡ areasOf v (owners (outlinesOf n cs ls ks)) (areas (outlinesOf n cs ls ks))
   owned-at-exit v = ap₂ (areasOf v) owners-at-exit areas-at-exit
 
-  pub areas-of-region-at-exit-add : (v : ℕ) → total (areasOwned after r v) ≡ pos (occurrences v (inRows n (numbersOf n cs ls ks)))
+  pub areas-of-region-at-exit-add : (v : ℕ) → total (areasOwned after (r .cycles) v) ≡ pos (occurrences v (inRows n (numbersOf n cs ls ks)))
   unfolding outlinesOf
   areas-of-region-at-exit-add v =
       ap total (owned-at-exit v) ∙ areas-of-region-add n (numbersOf n cs ls ks) (small p ok) (regions n (paint (blocks cs ls ks))) (known p ok) v
 
-  pub areas-of-regions-at-exit-add : total (map (λ v. total (areasOwned after r v)) (range 0 (r .regions))) ≡ pos (4 ^ n)
+  pub areas-of-regions-at-exit-add : total (map (λ v. total (areasOwned after (r .cycles) v)) (range 0 (r .regions))) ≡ pos (4 ^ n)
   unfolding outlinesOf
   areas-of-regions-at-exit-add =
       (λ i. total (map (λ v. total (owned-at-exit v i)) (range 0 (accepted-at-exit p ok .region-count i))))
       ∙ areas-of-regions-add n (numbersOf n cs ls ks) (small p ok) (regions n (paint (blocks cs ls ks))) (known p ok)
 
-  pub all-areas-at-exit-add : total (areasAt after r) ≡ pos (4 ^ n)
+  pub all-areas-at-exit-add : total (areasAt after (r .cycles)) ≡ pos (4 ^ n)
   unfolding outlinesOf
   all-areas-at-exit-add = ap total areas-at-exit ∙ all-areas-add n (numbersOf n cs ls ks) (small p ok) (regions n (paint (blocks cs ls ks))) (known p ok)
+
+  -- The areas of the first k cycles, some of them or all, add up within 32 bits.
+  fits : (k : ℕ) → k ≤ r .cycles → (zs : List ℤ) → sizes zs ≤ sizes (areasAt after k) → mag (total zs) < 2147483648
+  unfolding outlinesOf
+  fits k h zs some =
+      let most = areas-together-fit n (numbersOf n cs ls ks) (small p ok) (regions n (paint (blocks cs ls ks))) (known p ok) in
+      within (mag-within-size (total zs)) (size-of-total zs) some (sizes-of-first k (r .cycles) (after .areaList) h) (ap sizes areas-at-exit) most
+    where
+      within : {a b c d e f : ℕ} → a ≤ b → b ≤ c → c ≤ d → d ≤ e → e ≡ f → f < 2147483648 → a < 2147483648
+      within ab bc cd de ef most = omega arith
 
   -- Row by row, the labels at exit are the region numbers.
   labels-are-numbers : (raster : List ℕ) → length raster ≡ 4 ^ n → labelsInRows n (blocks cs ls ks) (after .labelList) raster ≡ inRows n (numbersOf n cs ls ks)
@@ -136,5 +152,7 @@ areas-add-up {n} {cs} {ls} {ks} {before} {after} {r} met p {old} {raster} {s} ro
         one-numbering = by-labels ∙ sym by-colours;
         regions-add = areas-of-regions-at-exit-add p ok;
         all-add = all-areas-at-exit-add p ok;
+        region-sums-fit = λ v k h. fits p ok k h (areasOwned after k v) (sizes-of-region v (take k (after .ownerList)) (take k (after .areaList)));
+        all-sums-fit = λ k h. fits p ok k h (areasAt after k) (omega arith);
       },
     )
