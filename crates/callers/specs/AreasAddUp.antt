@@ -19,8 +19,9 @@ use Rattle.components.specs.Numbers.{numbers, regions}
 use Rattle.grid.specs.Listing.{owners, areas}
 use Rattle.grid.specs.Stretches.{length-owners, length-areas}
 use Rattle.winding.specs.Tallies.{occurrences}
-use Rattle.winding.specs.Totals.{total, areasOf, sizes, size-of-total, sizes-of-region, sizes-of-first}
-use Rattle.winding.specs.RegionAreas.{areas-together-fit, areas-of-region-add, areas-of-regions-add, all-areas-add}
+use Rattle.winding.specs.Totals.{total, areasOf}
+use Rattle.winding.specs.RegionAreas.{areas-of-region-add, areas-of-regions-add, all-areas-add}
+use Rattle.winding.specs.Sizes.{sizes, size-of-total, sizes-of-region, sizes-of-first, areas-together-fit}
 use Rattle.answers.specs.declared.Written.{Written}
 use Rattle.painting.specs.Promise.{ToRaster}
 use Rattle.painting.specs.Callers.{painted}
@@ -104,7 +105,7 @@ module _ {n : ℕ} {cs ls ks : List ℕ} {before after : Lent} {r : Traced} (p :
   fits : (k : ℕ) → k ≤ r .cycles → (zs : List ℤ) → sizes zs ≤ sizes (areasAt after k) → mag (total zs) < 2147483648
   unfolding outlinesOf
   fits k h zs some =
-      let most = areas-together-fit n (numbersOf n cs ls ks) (small p ok) (regions n (paint (blocks cs ls ks))) (known p ok) in
+      let most = areas-together-fit n (numbersOf n cs ls ks) (small p ok) (regions n (paint (blocks cs ls ks))) in
       within (mag-within-size (total zs)) (size-of-total zs) some (sizes-of-first k (r .cycles) (after .areaList) h) (ap sizes areas-at-exit) most
     where
       within : {a b c d e f : ℕ} → a ≤ b → b ≤ c → c ≤ d → d ≤ e → e ≡ f → f < 2147483648 → a < 2147483648

@@ -1,1 +1,1 @@
-// What the tracing's promise says where a caller stands: theory only.
+// What the promises of the library's functions say where a caller stands: theory only.

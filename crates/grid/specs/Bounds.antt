@@ -24,9 +24,9 @@ use Rattle.grid.specs.Listing.{startCodes, Cycle, cycleAt, listing, allC
 use Rattle.grid.specs.Undoing.{digit-below-four}
 use Rattle.grid.specs.Sides.{sideAt, rightX, rightY, RightOf, edge-is-side}
 use Rattle.grid.specs.Returning.{Ring, ring}
-use Rattle.grid.specs.Starting.{StartAt, margin, start-says, one-start}
-use Rattle.grid.specs.Keeping.{in-start-codes, start-codes-distinct, starts-fit}
-use Rattle.grid.specs.Listed.{listing-length, outline-at, ring-at}
+use Rattle.grid.specs.Starting.{StartAt, margin, one-start}
+use Rattle.grid.specs.Keeping.{start-codes-distinct, starts-fit}
+use Rattle.grid.specs.Listed.{listing-length, listed-start, outline-at, ring-at}
 use Rattle.grid.specs.Stretches.{area-at}
 
 -- The corners of a walk are not more than its edges.
@@ -78,31 +78,32 @@ module _ (n : ℕ) (nums : List ℕ) (small : n ≤ 8) where
       ∙ ap₂ (λ x y. sideAt x y (digit a)) (xy .0) (xy .1) ∙ ap (sideAt (rightX (tail b) (digit b)) (rightY (tail b) (digit b))) (ab .1)
       ∙ sym (edge-is-side m (margin n nums small) s b k .the-side)
 
-  -- All listed edges, cycle after cycle.
-  module _ (regions : ℕ) where
-    start : (c : ℕ) → In c (startCodes n nums regions) → StartAt n nums c
-    start c i = let h = in-start-codes n nums regions c .0 i in start-says n nums small c (h .0) (h .2)
-
-    on-edge : (c : ℕ) → In c (startCodes n nums regions) → (a : ℕ) → In a (cycle n nums c) → Edge m (suc (getD nums c 0)) a
+  -- The edges of cycles from different starts, cycle after cycle.
+  module _ (cs : List ℕ) (apart : Distinct cs) (start : (c : ℕ) → In c cs → StartAt n nums c) where
+    on-edge : (c : ℕ) → In c cs → (a : ℕ) → In a (cycle n nums c) → Edge m (suc (getD nums c 0)) a
     unfolding cycle
     on-edge c i a k = ring m (margin n nums small) (suc (getD nums c 0)) (northSide n c) (start c i .north) .edges a k
 
-    once : (c : ℕ) → In c (startCodes n nums regions) → Distinct (cycle n nums c)
+    once : (c : ℕ) → In c cs → Distinct (cycle n nums c)
     unfolding cycle
     once c i = ring m (margin n nums small) (suc (getD nums c 0)) (northSide n c) (start c i .north) .once
 
-    pub all-edges-distinct : Distinct (flatMap (cycle n nums) (startCodes n nums regions))
-    all-edges-distinct =
-        ordered-flat _≢_ _≢_ (cycle n nums) (startCodes n nums regions) (start-codes-distinct n nums regions) once
+    pub edges-distinct : Distinct (flatMap (cycle n nums) cs)
+    edges-distinct =
+        ordered-flat _≢_ _≢_ (cycle n nums) cs apart once
         (λ c d a b i j h p q e. h (one-start n nums small c d a (start c i) (start d j) p (subst (λ x. In x (cycle n nums d)) (sym e) q)))
 
-    pub all-edges-fit : length (flatMap (cycle n nums) (startCodes n nums regions)) ≤ 4 * 4 ^ n
-    all-edges-fit =
-        keyed-length (edgeKey n) (4 * 4 ^ n) (flatMap (cycle n nums) (startCodes n nums regions)) all-edges-distinct (λ a i. key-below a)
-        (λ a b i j e. same a b (in-flat (cycle n nums) (startCodes n nums regions) a i) (in-flat (cycle n nums) (startCodes n nums regions) b j) e)
+    edges-fit : length (flatMap (cycle n nums) cs) ≤ 4 * 4 ^ n
+    edges-fit =
+        keyed-length (edgeKey n) (4 * 4 ^ n) (flatMap (cycle n nums) cs) edges-distinct (λ a i. key-below a)
+        (λ a b i j e. same a b (in-flat (cycle n nums) cs a i) (in-flat (cycle n nums) cs b j) e)
       where
-        same : (a b : ℕ) → (c : ℕ) × In c (startCodes n nums regions) × In a (cycle n nums c) → (d : ℕ) × In d (startCodes n nums regions) × In b (cycle n nums d) → edgeKey n a ≡ edgeKey n b → a ≡ b
+        same : (a b : ℕ) → (c : ℕ) × In c cs × In a (cycle n nums c) → (d : ℕ) × In d cs × In b (cycle n nums d) → edgeKey n a ≡ edgeKey n b → a ≡ b
         same a b (c, i, p) (d, j, q) e = key-injective (suc (getD nums c 0)) (suc (getD nums d 0)) a b (on-edge c i a p) (on-edge d j b q) e
+
+  -- All listed edges.
+  pub all-edges-fit : (regions : ℕ) → length (flatMap (cycle n nums) (startCodes n nums regions)) ≤ 4 * 4 ^ n
+  all-edges-fit regions = edges-fit (startCodes n nums regions) (start-codes-distinct n nums regions) (listed-start n nums regions small)
 
   -- A single cycle.
   pub cycle-fits : (r e : ℕ) → Edge m r e → length (cycleFrom m e) ≤ 4 * 4 ^ n

@@ -95,10 +95,11 @@ module _ (n : ℕ) (nums : List ℕ) (regions : ℕ) (small : n ≤ 8) where
   below : (k : ℕ) → k < length l → k < length (startCodes n nums regions)
   below k h = omega (arith, listing-length n nums regions)
 
+  pub listed-start : (c : ℕ) → In c (startCodes n nums regions) → StartAt n nums c
+  listed-start c i = let h = in-start-codes n nums regions c .0 i in start-says n nums small c (h .0) (h .2)
+
   pub start-at : (k : ℕ) → k < length l → StartAt n nums (start k)
-  start-at k h =
-      let c = in-start-codes n nums regions (start k) .0 (k, below k h, refl) in
-      start-says n nums small (start k) (c .0) (c .2)
+  start-at k h = listed-start (start k) (k, below k h, refl)
 
   -- The sides of the outline k are the edges of the cycle from its start.
   pub outline-at : (k : ℕ) → k < length l → sides k ≡ cycle n nums (start k)

@@ -13,7 +13,8 @@ pub mod Columns
 pub mod Inside
 pub mod LeastPixels
 pub mod Signs
--- All edges of a region at once, and sums of areas.
+-- All edges of a region at once; sums of areas, and that 32 bits hold them.
 pub mod AllEdges
 pub mod Totals
 pub mod RegionAreas
+pub mod Sizes

@@ -3,41 +3,41 @@ use mathlib.Core.Path.{_≡_, refl, sym, ap, ap₂, _∙_, subst}
 use mathlib.Core.Logic.{_≢_}
 use mathlib.Core.Bool.{Bool}
 use mathlib.Core.List.{List, [], _∷_, map, flatMap}
-use Prim.Native.Nat.{ℕ, suc, _*_, _/_, _%_, _^_, _≤_, _<_}
+use Prim.Native.Nat.{ℕ, suc, _/_, _%_, _^_, _≤_, _<_}
 use native.Mathlib.Decide.{ℕ-discrete}
 use native.Mathlib.Omega.{arith}
 use lib.ListN.{length, getD}
-use lib.IntN.{ℤ, pos, natAbs, _+ℤ_}
+use lib.IntN.{ℤ, pos, _+ℤ_}
 use lib.Dec.{eqb}
 use borrow.Author.Tests.{eqb-true, eq-eqb, ne-eqb}
-use Rattle.sequences.specs.Powers.{pow4-mono, square-of-side}
+use Rattle.sequences.specs.Powers.{square-of-side}
 use Rattle.sequences.specs.Ranges.{range}
 use Rattle.interleaving.specs.Codes.{code}
 use Rattle.interleaving.specs.Interleaving.{code-below}
 use Rattle.quadtree.specs.Raster.{inRows}
 use Rattle.quadtree.specs.Orders.{length-in-rows, in-rows-at}
 use Rattle.lattice.specs.Walks.{outline, corners}
-use Rattle.lattice.specs.Area.{area, area-append, area-size}
-use Rattle.orbits.specs.Members.{In, Distinct, in-first, in-later, in-flat, flat-in, ordered-flat}
+use Rattle.lattice.specs.Area.{area, area-append}
+use Rattle.orbits.specs.Members.{In, Distinct, in-first, in-later, in-flat, flat-in}
 use Rattle.grid.specs.Map.{regionAt}
 use Rattle.grid.specs.Margins.{region-inside, region-east}
 use Rattle.grid.specs.Steps.{Edge}
 use Rattle.grid.specs.Cycles.{cycle}
 use Rattle.grid.specs.Listing.{keep, startCodes, cycleAt, listing, owners, areas}
 use Rattle.grid.specs.Keeping.{keep-yes, keep-no, in-keep, keep-in, ordered-keep, in-start-codes, start-codes-distinct}
-use Rattle.grid.specs.Starting.{StartAt, start-says, one-start}
+use Rattle.grid.specs.Starting.{StartAt}
 use Rattle.grid.specs.Closing.{sides-of-corners}
 use Rattle.grid.specs.North.{side-small}
-use Rattle.grid.specs.Listed.{listing-length, owner-at, CycleThrough, find}
+use Rattle.grid.specs.Listed.{listing-length, listed-start, owner-at, CycleThrough, find}
 use Rattle.grid.specs.Stretches.{length-owners, length-areas}
-use Rattle.grid.specs.Bounds.{all-edges-fit}
+use Rattle.grid.specs.Bounds.{edges-distinct}
 use Rattle.winding.specs.Sums.{same, same-suc, same-flip, sum, sum-same, sum-rows}
 use Rattle.winding.specs.Tallies.{occurrences, occurrences-in-tabulate, occurrences-add}
 use Rattle.winding.specs.Pixels.{overPixels, AllFit}
 use Rattle.winding.specs.Neighbours.{ClosedWalk}
 use Rattle.winding.specs.Inside.{cycle-closed, vertical-fits}
 use Rattle.winding.specs.AllEdges.{area-is-pixels}
-use Rattle.winding.specs.Totals.{total, sizes, areasOf, sizes-by-edges, areas-own, areas-other, total-by-region, total-is-sum}
+use Rattle.winding.specs.Totals.{total, areasOf, areas-own, areas-other, total-by-region, total-is-sum}
 
 module _ (n : ℕ) (nums : List ℕ) (small : n ≤ 8) where
   abbrev m : ℕ → ℕ → ℕ
@@ -99,19 +99,10 @@ module _ (n : ℕ) (nums : List ℕ) (small : n ≤ 8) where
     codes = startCodes n nums regions
 
     start : (c : ℕ) → In c codes → StartAt n nums c
-    start c i = let h = in-start-codes n nums regions c .0 i in start-says n nums small c (h .0) (h .2)
+    start = listed-start n nums regions small
 
     closed : (c : ℕ) → In c codes → ClosedWalk m (suc (getD nums c 0)) (cycle n nums c)
     closed c i = cycle-closed n nums small c (start c i)
-
-    -- All areas together are within 2^27: there are at most 262,144 edges in all, and no x above 511.
-    pub areas-together-fit : sizes (areas (listing n nums regions)) < 2147483648
-    unfolding listing cycleAt
-    areas-together-fit = omega (arith, sizes-by-edges (cycleAt n nums) (cycle n nums) codes size, all-edges-fit n nums small regions, pow4-mono small)
-      where
-        size : (c : ℕ) → In c codes → natAbs (area (outline (corners (cycle n nums c)))) ≤ 512 * length (cycle n nums c)
-        size c i =
-            subst (λ (es : List ℕ). natAbs (area es) ≤ 512 * length (cycle n nums c)) (sym (sides-of-corners n nums small c (start c i))) (area-size (cycle n nums c))
 
     module _ (v : ℕ) where
       abbrev kept : List ℕ
@@ -127,10 +118,7 @@ module _ (n : ℕ) (nums : List ℕ) (small : n ≤ 8) where
           subst (λ (u : ℕ). Edge m (suc u) e) (k .1) (closed (w .0) (k .0) .edges e (w .2))
 
       edges-once : Distinct (edgesOf v codes)
-      edges-once =
-          ordered-flat _≢_ _≢_ (cycle n nums) kept (ordered-keep (ofRegion v) _≢_ codes (start-codes-distinct n nums regions))
-          (λ c i. closed c (listed c i .0) .once)
-          (λ c d a b i j apart p q e. apart (one-start n nums small c d a (start c (listed c i .0)) (start d (listed d j .0)) p (subst (λ x. In x (cycle n nums d)) (sym e) q)))
+      edges-once = edges-distinct n nums small kept (ordered-keep (ofRegion v) _≢_ codes (start-codes-distinct n nums regions)) (λ c i. start c (listed c i .0))
 
       all-edges : (e : ℕ) → Edge m (suc v) e → In e (edgesOf v codes)
       all-edges e h =

@@ -1,21 +1,18 @@
 -- Areas added up: those of the cycles of one region, and those of all cycles (document 02, request d).
 use mathlib.Core.Path.{_≡_, refl, sym, ap, ap₂, _∙_}
 use mathlib.Core.Logic.{_≢_, _⊎_, inl, inr}
-use mathlib.Core.Bool.{Bool, true, false, cond}
-use mathlib.Core.List.{List, [], _∷_, map, flatMap}
-use Prim.Native.Nat.{ℕ, zero, suc, _+_, _*_, _≤_, _<_}
+use mathlib.Core.Bool.{cond}
+use mathlib.Core.List.{List, [], _∷_, map}
+use Prim.Native.Nat.{ℕ, _<_}
 use native.Mathlib.Omega.{arith}
-use lib.ListN.{length, take, length-append}
-use lib.IntN.{ℤ, pos, negsuc, natAbs, _+ℤ_, +ℤ-idl, +ℤ-assoc, +ℤ-comm}
+use lib.ListN.{length}
+use lib.IntN.{ℤ, pos, negsuc, _+ℤ_, +ℤ-idl, +ℤ-assoc, +ℤ-comm}
 use lib.Dec.{eqb}
 use borrow.Author.Tests.{eq-eqb, ne-eqb}
-use Rattle.sequences.specs.Differences.{size-of-sum}
 use Rattle.sequences.specs.Ranges.{range}
-use Rattle.lattice.specs.Walks.{outline}
-use Rattle.lattice.specs.Area.{area}
 use Rattle.orbits.specs.Members.{In, Distinct, in-first, in-later, in-cases, in-none, ordered-rest, ordered-first}
 use Rattle.grid.specs.Figures.{figure5a}
-use Rattle.grid.specs.Listing.{Cycle, listing, owners, areas}
+use Rattle.grid.specs.Listing.{listing, owners, areas}
 use Rattle.grid.specs.Keeping.{in-range, range-rises}
 use Rattle.winding.specs.Sums.{sum}
 use Rattle.winding.specs.Tallies.{tally, tally-below}
@@ -48,44 +45,6 @@ module _ (v o : ℕ) (os : List ℕ) (z : ℤ) (zs : List ℤ) where
   pub areas-other : o ≢ v → areasOf v (o ∷ os) (z ∷ zs) ≡ areasOf v os zs
   unfolding areasOf
   areas-other h = ap (λ t. cond t (z ∷ areasOf v os zs) (areasOf v os zs)) (ne-eqb o v h)
-
--- ---- sizes
-
--- The sizes of areas, above or below 0, added up.
-unfoldable pub sizes : List ℤ → ℕ
-sizes [] = 0
-sizes (z ∷ zs) = natAbs z + sizes zs
-
--- No sum is further from 0, nor one of fewer areas: those of one region, those of the first j cycles.
-pub size-of-total : (zs : List ℤ) → natAbs (total zs) ≤ sizes zs
-unfolding total sizes
-size-of-total [] = omega arith
-size-of-total (z ∷ zs) = omega (arith, size-of-sum z (total zs), size-of-total zs)
-
-pub sizes-of-region : (v : ℕ) (os : List ℕ) (zs : List ℤ) → sizes (areasOf v os zs) ≤ sizes zs
-unfolding sizes areasOf
-sizes-of-region v [] zs = omega arith
-sizes-of-region v (o ∷ os) [] = omega arith
-sizes-of-region v (o ∷ os) (z ∷ zs) = pick (eqb o v) (sizes-of-region v os zs)
-  where
-    pick : (b : Bool) → sizes (areasOf v os zs) ≤ sizes zs → sizes (cond b (z ∷ areasOf v os zs) (areasOf v os zs)) ≤ natAbs z + sizes zs
-    pick true rest = omega arith
-    pick false rest = omega arith
-
-pub sizes-of-first : (j k : ℕ) (zs : List ℤ) → j ≤ k → sizes (take j zs) ≤ sizes (take k zs)
-unfolding sizes
-sizes-of-first zero k zs h = omega arith
-sizes-of-first (suc j) zero zs h = absurd (omega arith)
-sizes-of-first (suc j) (suc k) [] h = omega arith
-sizes-of-first (suc j) (suc k) (z ∷ zs) h = omega (arith, sizes-of-first j k zs (omega arith))
-
--- Cycles whose areas are no larger than 512 times the number of their edges: so all areas together.
-pub sizes-by-edges : (f : ℕ → Cycle) (edges : ℕ → List ℕ) (cs : List ℕ) → ((c : ℕ) → In c cs → natAbs (area (outline (f c .points))) ≤ 512 * length (edges c))
-    → sizes (areas (map f cs)) ≤ 512 * length (flatMap edges cs)
-unfolding sizes areas flatMap
-sizes-by-edges f edges [] h = omega arith
-sizes-by-edges f edges (c ∷ cs) h =
-    omega (arith, h c (in-first c cs), length-append (edges c) (flatMap edges cs), sizes-by-edges f edges cs (λ d i. h d (in-later d c cs i)))
 
 -- ---- region after region
 
