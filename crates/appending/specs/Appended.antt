@@ -7,9 +7,8 @@ use native.Mathlib.Omega.{arith}
 use lib.ListN.{length}
 use Rattle.sequences.specs.Powers.{pow4-mono}
 use Rattle.quadtree.specs.Blocks.{Block}
-use Rattle.runs.specs.Pieces.{Piece, piece}
 use Rattle.runs.specs.Squares.{length-squares}
-use Rattle.runs.specs.Written.{Run, run, squaresOf, ended, next, same-continues, other-ends, nothing-ended, squares-ended, run-longer, run-anew}
+use Rattle.runs.specs.Runs.{Piece, piece, Run, run, squaresOf, ended, next, nothing-ended, squares-ended, run-longer, run-anew}
 use Rattle.quadtree.specs.BlockLists.{BlockList, RoomFor, SameLengths, room-for-fewer}
 use Rattle.runs.specs.Stored.{stored, stored-none, length-stored}
 use Rattle.appending.specs.declared.Pending.{Pending}
@@ -69,9 +68,8 @@ module _ {n size : ℕ} {p : Pending} {lists : BlockList} (f : Appendable n p si
   -- The run goes on, longer by the piece.
   pub appended-same : {colour : ℕ} → colour ≡ p .colour → Appended n p (piece size colour) lists lists (pendingAt (p .from) (p .to + size) (p .colour) (p .count))
   appended-same {colour} e =
-      let t = same-continues (runOf p) (piece size colour) e in
-      let none : ended n (runOf p) (piece size colour) ≡ [] = nothing-ended n (runOf p) (piece size colour) t in
-      let longer = run-longer n (runOf p) (piece size colour) t in
+      let none : ended n (runOf p) (piece size colour) ≡ [] = nothing-ended n (runOf p) (piece size colour) e in
+      let longer = run-longer n (runOf p) (piece size colour) e in
       let same : p .count ≡ p .count + length (ended n (runOf p) (piece size colour)) = omega (arith, ap length none) in
       record {
         answer = ap₂ (λ (r : Run) (k : ℕ). pendingAt (r .from) (r .to) (r .colour) k) (sym longer) same;
@@ -82,9 +80,8 @@ module _ {n size : ℕ} {p : Pending} {lists : BlockList} (f : Appendable n p si
   pub appended-other : {colour count : ℕ} {after : BlockList} → colour ≢ p .colour → RunWritten n p lists after count
       → Appended n p (piece size colour) lists after (pendingAt (p .to) (p .to + size) colour count)
   appended-other {colour} {count} {after} other w =
-      let t = other-ends (runOf p) (piece size colour) (λ z. omega (arith, f .some)) other in
-      let all : ended n (runOf p) (piece size colour) ≡ squaresOf n (runOf p) = squares-ended n (runOf p) (piece size colour) t in
-      let anew = run-anew n (runOf p) (piece size colour) t in
+      let all : ended n (runOf p) (piece size colour) ≡ squaresOf n (runOf p) = squares-ended n (runOf p) (piece size colour) other in
+      let anew = run-anew n (runOf p) (piece size colour) other in
       record {
         answer =
             ap₂ (λ (r : Run) (k : ℕ). pendingAt (r .from) (r .to) (r .colour) k) (sym anew)

@@ -9,7 +9,7 @@ use Rattle.location.specs.Levels.{pixelsOf, pixels-are-power}
 use Rattle.quadtree.specs.Blocks.{Block}
 use Rattle.quadtree.specs.Painting.{block}
 use Rattle.runs.specs.Squares.{levelIn, squares, level-ends, level-in-image, squares-end, squares-more}
-use Rattle.runs.specs.Written.{squaresOf}
+use Rattle.runs.specs.Runs.{squaresOf}
 use Rattle.quadtree.specs.BlockLists.{BlockList, listOf, SameLengths, room-for-fewer, room-again, RoomFor}
 use Rattle.runs.specs.Stored.{stored, stored-none, stored-one}
 use Rattle.appending.specs.declared.Pending.{Pending}

@@ -1,8 +1,8 @@
 // Pieces of an image appended in code order. One run of one colour is pending; when it ends it is written as its squares, each entry
 // once.
 ghost use mathlib.Core.Path.{_≡_};
-ghost use Rattle.runs.specs.Pieces.{piece};
 ghost use Rattle.runs.specs.Squares.{levelIn};
+ghost use Rattle.runs.specs.Runs.{piece};
 ghost use Rattle.quadtree.specs.BlockLists.{listOf};
 ghost use Rattle.appending.specs.Levels.{RunIn};
 ghost use Rattle.appending.specs.Appended.{Writable, RunWritten, Appendable, Appended};

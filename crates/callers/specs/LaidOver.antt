@@ -10,9 +10,10 @@ use Rattle.interleaving.specs.Codes.{code}
 use Rattle.quadtree.specs.Orders.{in-rows-at}
 use Rattle.answers.specs.declared.Written.{Written}
 use Rattle.quadtree.specs.BlockLists.{BlockList, blocksOf, imageOf, numberOf}
+use Rattle.runs.specs.BlockWriters.{resultOf}
 use Rattle.overlaying.specs.Larger.{larger}
 use Rattle.overlaying.specs.Promise.{Overlay}
-use Rattle.overlaying.specs.Callers.{resultOf, accepted-only, result-accepted, result-paints-larger, each-pixel-larger}
+use Rattle.overlaying.specs.Callers.{accepted-only, result-accepted, result-paints-larger, each-pixel-larger}
 use Rattle.painting.specs.Promise.{ToRaster}
 use Rattle.painting.specs.Callers.{painted}
 use Rattle.merging.specs.Promise.{FromRaster}

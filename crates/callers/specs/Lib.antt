@@ -2,4 +2,5 @@
 pub mod Demand3
 pub mod PathData
 pub mod LaidOver
+pub mod TouchedUp
 pub mod AreasAddUp

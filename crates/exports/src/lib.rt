@@ -9,6 +9,7 @@ ghost use Rattle.rearranging.specs.Ways.{toBlockOrder, toRows};
 ghost use Rattle.rearranging.specs.Promise.{Rearranging};
 ghost use Rattle.quadtree.specs.BlockLists.{listOf};
 ghost use Rattle.overlaying.specs.Promise.{Overlay};
+ghost use Rattle.touching_up.specs.Promise.{TouchUp};
 ghost use Rattle.regions.specs.Promise.{Numbering};
 ghost use Rattle.tracing.specs.Tracing.{lent, Tracing};
 ghost use Rattle.stretches.specs.Stretch.{Place};
@@ -169,6 +170,43 @@ pub extern "C" fn nettlestair_overlay(
     Written {
         number: laid.number,
         count: laid.count,
+    }
+}
+
+#[no_mangle]
+pub extern "C" fn nettlestair_touch_up(
+    n: u32,
+    codes: &[u32],
+    levels: &[u8],
+    colours: &[u16],
+    x: u32,
+    y: u32,
+    colour: u16,
+    new_codes: &mut [u32],
+    new_levels: &mut [u8],
+    new_colours: &mut [u16],
+) -> Written
+    ensures { λ r. ⌜ TouchUp n
+        (listOf (now (codes .entry)) (now (levels .entry)) (now (colours .entry))) x y colour
+        (listOf (now («new_codes» .entry)) (now («new_levels» .entry)) (now («new_colours» .entry)))
+        (listOf (now («new_codes» .exit)) (now («new_levels» .exit)) (now («new_colours» .exit)))
+        (record { number = r .number; count = r .count }) ⌝ }
+{
+    let touched = touching_up::touch_up(
+        n,
+        codes,
+        levels,
+        colours,
+        x,
+        y,
+        colour,
+        new_codes,
+        new_levels,
+        new_colours,
+    );
+    Written {
+        number: touched.number,
+        count: touched.count,
     }
 }
 

@@ -5,8 +5,8 @@ use Prim.Native.Nat.{ℕ, _^_}
 use lib.ListN.{length, take}
 use Rattle.quadtree.specs.BlockLists.{BlockList, listOf, numberOf, RoomFor}
 use Rattle.answers.specs.declared.Written.{Written}
+use Rattle.runs.specs.BlockWriters.{resultOf}
 use Rattle.overlaying.specs.Promise.{Overlay}
-use Rattle.overlaying.specs.Callers.{resultOf}
 
 -- What a call leaves: the three lists at exit, and its answer.
 pub record Out : Type 0 where

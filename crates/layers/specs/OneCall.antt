@@ -3,17 +3,17 @@ use mathlib.Core.Path.{_≡_, refl, sym, ap, _∙_}
 use Prim.Native.Nat.{ℕ, _^_, _≤_}
 use native.Mathlib.Nat.{zero-mod}
 use native.Mathlib.Omega.{arith}
-use lib.ListN.{length, length-map}
+use lib.ListN.{length}
 use Rattle.sequences.specs.Powers.{pow4-pos}
-use Rattle.quadtree.specs.Blocks.{Block, blocks}
+use Rattle.quadtree.specs.Blocks.{blocks}
 use Rattle.quadtree.specs.Number.{siblings}
 use Rattle.quadtree.specs.Covering.{Covers, zero-of-covers}
 use Rattle.quadtree.specs.Painting.{paint-block}
 use Rattle.quadtree.specs.Accepted.{number-zero, zero-number}
 use Rattle.quadtree.specs.BlockLists.{BlockList, blocksOf, imageOf, numberOf, accepted-covers, length-image}
+use Rattle.runs.specs.BlockWriters.{result-counted}
 use Rattle.overlaying.specs.Larger.{larger}
-use Rattle.overlaying.specs.Promise.{overlaid}
-use Rattle.overlaying.specs.Callers.{not-refused, blocks-counted, result-is-merged, result-accepted, result-paints-larger, no-other-list}
+use Rattle.overlaying.specs.Callers.{not-refused, result-accepted, result-paints-larger, no-other-list}
 use Rattle.layers.specs.Calls.{Out, result, Call, singleBlock, Gives}
 use Rattle.layers.specs.Largest.{larger-commutes, larger-itself, larger-zeros}
 
@@ -30,10 +30,7 @@ module _ {n : ℕ} {a b : BlockList} {o : Out} (f : numberOf n a ≡ 0) (g : num
   call-paints = result-paints-larger (c .promise) call-answers
 
   pub call-counted : o .answer .count ≡ length (result o .codes)
-  call-counted =
-      blocks-counted (c .promise) call-answers
-      ∙ sym (length-map (overlaid n a b) (λ (x : Block). x .code))
-      ∙ ap (λ (l : BlockList). length (l .codes)) (sym (result-is-merged (c .promise) call-answers))
+  call-counted = result-counted (c .promise .writes) call-answers
 
   pub call-gives : {d : BlockList} → result o ≡ d → Gives d o
   call-gives same = record {

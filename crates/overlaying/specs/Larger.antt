@@ -1,24 +1,15 @@
 -- The larger of two colours, pixel by pixel.
-use mathlib.Core.Path.{_≡_, refl, ap}
-use mathlib.Core.List.{List, [], _∷_, _++_, zipWith}
-use Prim.Native.Nat.{ℕ, zero, suc, max}
+use mathlib.Core.Path.{_≡_, refl, sym, ap, _∙_}
+use mathlib.Core.List.{List, [], _∷_, zipWith}
+use Prim.Native.Nat.{ℕ, zero, suc, _^_, max}
 use native.Mathlib.Omega.{arith}
-use lib.ListN.{length, getD, replicate}
+use lib.ListN.{length, getD}
+use Rattle.quadtree.specs.BlockLists.{BlockList, imageOf, numberOf, accepted-covers, length-image}
 
 -- "every pixel has the larger of the two colours" (document 02, request b): two images of one size, in rising location code.
 unfoldable pub larger : List ℕ → List ℕ → List ℕ
 unfolding zipWith
 larger px qx = zipWith max px qx
-
-pub larger-none : larger [] [] ≡ []
-unfolding larger zipWith
-larger-none = refl
-
--- Two stretches of one colour each, and what follows.
-pub larger-stretch : (w u v : ℕ) (px qx : List ℕ) → larger (replicate w u ++ px) (replicate w v ++ qx) ≡ replicate w (max u v) ++ larger px qx
-unfolding larger zipWith
-larger-stretch zero u v px qx = refl
-larger-stretch (suc w) u v px qx = ap (λ (l : List ℕ). max u v ∷ l) (larger-stretch w u v px qx)
 
 pub length-larger : (px qx : List ℕ) → length px ≡ length qx → length (larger px qx) ≡ length px
 unfolding larger zipWith
@@ -34,3 +25,11 @@ larger-at [] (y ∷ qx) i h = absurd (omega arith)
 larger-at (x ∷ px) [] i h = absurd (omega arith)
 larger-at (x ∷ px) (y ∷ qx) zero h = refl
 larger-at (x ∷ px) (y ∷ qx) (suc i) h = larger-at px qx i (omega arith)
+
+-- The images of two accepted lists of one n have one size, and so have the larger colours.
+module _ (n : ℕ) (a b : BlockList) (f : numberOf n a ≡ 0) (g : numberOf n b ≡ 0) where
+  pub same-size : length (imageOf a) ≡ length (imageOf b)
+  same-size = length-image n a (accepted-covers n a f) ∙ sym (length-image n b (accepted-covers n b g))
+
+  pub length-of-larger : length (larger (imageOf a) (imageOf b)) ≡ 4 ^ n
+  length-of-larger = length-larger (imageOf a) (imageOf b) same-size ∙ length-image n a (accepted-covers n a f)

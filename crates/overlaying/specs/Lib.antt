@@ -1,8 +1,5 @@
 -- One block list laid over another: the answer, the pass over both lists, what a caller knows.
 pub mod Larger
 pub mod Promise
-pub mod Shared
-pub mod Cursors
-pub mod SharedPainted
 pub mod Pass
 pub mod Callers

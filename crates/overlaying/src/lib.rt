@@ -1,7 +1,7 @@
 // One block list laid over another: the merged list whose every pixel has the larger of the two colours.
 use answers::Written;
+use cursors::least;
 use pass::lay_over;
-use pass::least;
 ghost use Rattle.quadtree.specs.BlockLists.{listOf};
 ghost use Rattle.overlaying.specs.Promise.{Overlay};
 

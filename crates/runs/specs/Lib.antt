@@ -1,7 +1,7 @@
--- Pieces joined to runs, runs cut into squares: what comes out is the quadtree.
-pub mod Pieces
+-- Pieces joined to runs, runs cut into squares: what comes out is the quadtree. Blocks stored in lent lists; what their writer answers.
 pub mod Squares
-pub mod Written
+pub mod Runs
 pub mod Maximal
-pub mod WrittenQuadtree
+pub mod MergedRuns
 pub mod Stored
+pub mod BlockWriters

@@ -7,9 +7,8 @@ use borrow.Author.Needs.{needs}
 use Rattle.sequences.specs.Powers.{pow4-mono}
 use Rattle.location.specs.Levels.{pixels-are-power}
 use Rattle.quadtree.specs.Accepted.{number-zero}
-use Rattle.quadtree.specs.BlockLists.{listOf, numberOf, accepted-covers, RoomFor}
-use Rattle.overlaying.specs.Promise.{first-refused, second-refused, one-short, laid-over}
-use Rattle.overlaying.specs.Pass.{all-lengths}
+use Rattle.quadtree.specs.BlockLists.{listOf, numberOf, RoomFor}
+use Rattle.overlaying.specs.Promise.{first-refused, second-refused, too-short, laid-over}
 use Rattle.overlaying.proofs.overlay.Statement.{statement}
 use Rattle.overlaying.proofs.overlay.Tie as tie
 
@@ -78,16 +77,15 @@ returns-2 c = second-refused _ _ _ _ (first-accepted (c .before .before)) (c .be
 returns-3 : tie.Need-returns-3
 returns-3 c =
     let from = judged (c .before) in
-    one-short _ _ _ _ (first-accepted from) (second-accepted (c .before)) (measured from .least2 .result) (room from) (omega (arith, whole from, c .if3 .taken))
+    too-short _ _ _ _ (first-accepted from) (second-accepted (c .before)) (omega (arith, room from, whole from, c .if3 .taken))
 
 lay-over-requires : tie.Need-lay-over-requires
 lay-over-requires c κs =
     let past = c .before .before .before in
     let from = judged (past .before) in
     record {
-      small = small from;
-      first = accepted-covers _ _ (first-accepted from);
-      second = accepted-covers _ _ (second-accepted (past .before));
+      first = first-accepted from;
+      second = second-accepted (past .before);
       room = enough past;
     }
 
@@ -97,20 +95,19 @@ cast-count c =
     omega (arith, w .lay-over .ensures .few, pow4-mono (small (judged (begun w .before))))
 
 same-length : tie.Need-same-length
-same-length c = let w = passed c in all-lengths (enough (begun w)) (w .lay-over .ensures) .for-codes
+same-length c = passed c .lay-over .ensures .same .for-codes
 
 same-length-2 : tie.Need-same-length-2
-same-length-2 c = let w = passed c in all-lengths (enough (begun w)) (w .lay-over .ensures) .for-levels
+same-length-2 c = passed c .lay-over .ensures .same .for-levels
 
 same-length-3 : tie.Need-same-length-3
-same-length-3 c = let w = passed c in all-lengths (enough (begun w)) (w .lay-over .ensures) .for-colours
+same-length-3 c = passed c .lay-over .ensures .same .for-colours
 
 returns-4 : tie.Need-returns-4
 returns-4 c =
     let w = passed c in
     let past = begun w in
-    laid-over _ _ _ _ (first-accepted (judged (past .before))) (second-accepted (past .before)) (enough past) (w .lay-over .ensures .answer)
-    (w .lay-over .ensures .lists)
+    laid-over _ _ _ _ (first-accepted (judged (past .before))) (second-accepted (past .before)) (enough past) (w .lay-over .ensures)
 
 pub overlay-spec : {M : Type 1} → statement M
 overlay-spec =

@@ -1,12 +1,12 @@
--- The loop's invariant: both cursors stand at the end of the pending run, and what is written, what is pending and the pieces to come
--- make the whole. The measure is the pixels left.
+-- The loop's invariant: both cursors stand at the end of the pending run, and what is written, and what merging still gives from there on,
+-- is the whole. The measure is the pixels left.
 use Prim.Native.Nat.{_-_, _^_, _≤_, _<_}
 use native.Mathlib.Omega.{arith}
 use lib.ListN.{length}
 use borrow.Author.Needs.{needs}
 use Rattle.quadtree.specs.BlockLists.{listOf}
-use Rattle.appending.specs.Progress.{progress-few}
-use Rattle.overlaying.specs.Pass.{Passing, Reached, passing-none, in-second, first-reached, second-reached, done-on, piece-appendable, end-on, passing-more, passed}
+use Rattle.cursors.specs.Cursors.{BlockThere}
+use Rattle.overlaying.specs.Pass.{Passing, passing-none, in-second, first-there, second-there, done-on, piece-appendable, end-on, passing-more, passed}
 use Rattle.overlaying.proofs.pass.lay_over.Statement.{statement}
 use Rattle.overlaying.proofs.pass.lay_over.Tie as tie
 
@@ -36,12 +36,12 @@ abbrev past : tie.After-write-run Inv-loop μ-loop → tie.At-loop Inv-loop μ-l
 past c = c .before .before .before .before .before
 
 first : (c : tie.In-loop Inv-loop μ-loop) → let a = entry c .args in let l = c .before .loop in
-    Reached (listOf (a .first-codes .now) (a .first-levels .now) (a .first-colours .now)) (l .i)
-first c = first-reached (entry c .pre) (c .before .loop .inv) (c .loop-test .taken)
+    BlockThere (a .n) (listOf (a .first-codes .now) (a .first-levels .now) (a .first-colours .now)) (l .i)
+first c = first-there (entry c .pre) (c .before .loop .inv) (c .loop-test .taken)
 
 second : (c : tie.In-loop Inv-loop μ-loop) → let a = entry c .args in let l = c .before .loop in
-    Reached (listOf (a .second-codes .now) (a .second-levels .now) (a .second-colours .now)) (l .j)
-second c = second-reached (entry c .pre) (c .before .loop .inv) (c .loop-test .taken)
+    BlockThere (a .n) (listOf (a .second-codes .now) (a .second-levels .now) (a .second-colours .now)) (l .j)
+second c = second-there (entry c .pre) (c .before .loop .inv) (c .loop-test .taken)
 
 second-codes : (c : tie.In-loop Inv-loop μ-loop) → c .before .loop .j < length (entry c .args .second-codes .now)
 second-codes c = in-second (entry c .pre) (c .before .loop .inv) (c .loop-test .taken)
@@ -50,8 +50,9 @@ second-codes c = in-second (entry c .pre) (c .before .loop .inv) (c .loop-test .
 farther : (c : tie.After-larger-colour Inv-loop μ-loop) → (begun c .before .loop .pending .to < c .before .before .before .least .result) × (c .before .before .before .least .result ≤ 4 ^ entry (begun c) .args .n)
 farther c =
     let now = begun c in
-    done-on (entry now .pre) (now .before .loop .inv) (now .loop-test .taken) (c .before .before .before .before .before .before .before .end-of .ensures)
-    (c .before .before .before .before .end-of2 .ensures) (c .before .before .before .least .ensures)
+    let on = done-on (entry now .pre) (now .before .loop .inv) (now .loop-test .taken) (c .before .before .before .before .before .before .before .end-of .ensures)
+    (c .before .before .before .before .end-of2 .ensures) (c .before .before .before .least .ensures) in
+    (on .0, on .3)
 
 loop-holds : tie.Need-loop-holds Inv-loop μ-loop
 loop-holds c = passing-none (c .before .before .before .before .before .before .before .before .before .pre)
@@ -108,11 +109,11 @@ append-requires c κs =
     piece-appendable (entry now .pre) (now .before .loop .inv) (now .loop-test .taken) (known .before .before .before .before .before .before .before .end-of .ensures)
     (known .before .before .before .before .end-of2 .ensures) (known .before .before .before .least .ensures)
 
-next-index-requires : tie.Need-next-index-requires Inv-loop μ-loop
-next-index-requires c κs = let now = begun (piece-known (c .before .before .before .before .before .before)) in omega (arith, now .loop-test .taken, entry now .good)
+next-place-requires : tie.Need-next-place-requires Inv-loop μ-loop
+next-place-requires c κs = let now = begun (piece-known (c .before .before .before .before .before .before)) in omega (arith, now .loop-test .taken, entry now .good)
 
-next-index-requires-2 : tie.Need-next-index-requires-2 Inv-loop μ-loop
-next-index-requires-2 c κs = let now = begun (piece-known (c .before .before .before .before .before .before .before)) in omega (arith, second-codes now, entry now .good)
+next-place-requires-2 : tie.Need-next-place-requires-2 Inv-loop μ-loop
+next-place-requires-2 c κs = let now = begun (piece-known (c .before .before .before .before .before .before .before)) in omega (arith, second-codes now, entry now .good)
 
 loop-less : tie.Need-loop-less Inv-loop μ-loop
 loop-less c =
@@ -132,25 +133,25 @@ loop-again c =
     let known = piece-known done in
     let now = begun known in
     passing-more (entry now .pre) (now .before .loop .inv) (now .loop-test .taken) (known .before .before .before .before .before .before .before .end-of .ensures)
-    (known .before .before .before .before .end-of2 .ensures) (known .before .before .before .least .ensures) (done .append .ensures) (known .larger-colour .ensures) (c .before .next-index .ensures) (c .next-index2 .ensures)
+    (known .before .before .before .before .end-of2 .ensures) (known .before .before .before .least .ensures) (done .append .ensures) (known .larger-colour .ensures) (c .before .next-place .ensures) (c .next-place2 .ensures)
 
 write-run-requires : tie.Need-write-run-requires Inv-loop μ-loop
 write-run-requires c κs = c .before .before .before .before .loop .inv .progress .writable
-
-same-length : tie.Need-same-length Inv-loop μ-loop
-same-length c = let w = wrote c in progress-few (past w .loop .inv .progress) (w .write-run .ensures) .1 .for-codes
-
-same-length-2 : tie.Need-same-length-2 Inv-loop μ-loop
-same-length-2 c = let w = wrote c in progress-few (past w .loop .inv .progress) (w .write-run .ensures) .1 .for-levels
-
-same-length-3 : tie.Need-same-length-3 Inv-loop μ-loop
-same-length-3 c = let w = wrote c in progress-few (past w .loop .inv .progress) (w .write-run .ensures) .1 .for-colours
 
 returns : tie.Need-returns Inv-loop μ-loop
 returns c =
     let w = wrote c in
     let l = past w in
     passed (l .before .before .before .before .before .before .before .before .before .before .pre) (l .loop .inv) (w .before .before .before .before .loop-test .left) (w .write-run .ensures)
+
+same-length : tie.Need-same-length Inv-loop μ-loop
+same-length c = returns c .same .for-codes
+
+same-length-2 : tie.Need-same-length-2 Inv-loop μ-loop
+same-length-2 c = returns c .same .for-levels
+
+same-length-3 : tie.Need-same-length-3 Inv-loop μ-loop
+same-length-3 c = returns c .same .for-colours
 
 pub lay-over-spec : {M : Type 1} → statement M
 lay-over-spec =
@@ -175,8 +176,8 @@ lay-over-spec =
     larger-colour-requires
     sub-size
     append-requires
-    next-index-requires
-    next-index-requires-2
+    next-place-requires
+    next-place-requires-2
     loop-less
     loop-again
     write-run-requires

@@ -3,8 +3,8 @@ use native.Mathlib.Omega.{arith}
 use borrow.Author.Needs.{needs}
 use Rattle.sequences.specs.Powers.{pow4-mono}
 use Rattle.location.specs.Levels.{pixels-are-power}
-use Rattle.overlaying.proofs.pass.end_of.Statement.{statement}
-use Rattle.overlaying.proofs.pass.end_of.Tie as tie
+use Rattle.cursors.proofs.end_of.Statement.{statement}
+use Rattle.cursors.proofs.end_of.Tie as tie
 
 pixels-requires : tie.Need-pixels-requires
 pixels-requires c κs = search needs

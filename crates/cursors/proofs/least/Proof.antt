@@ -1,7 +1,7 @@
 -- Its two cases are those of the test.
 use native.Mathlib.Omega.{arith}
-use Rattle.overlaying.proofs.pass.least.Statement.{statement}
-use Rattle.overlaying.proofs.pass.least.Tie as tie
+use Rattle.cursors.proofs.least.Statement.{statement}
+use Rattle.cursors.proofs.least.Tie as tie
 
 returns : tie.Need-returns
 returns c = omega (arith, c .if1 .taken)

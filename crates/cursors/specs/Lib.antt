@@ -1,0 +1,2 @@
+-- Cursors in block lists.
+pub mod Cursors

@@ -1,0 +1,4 @@
+-- One pixel of a block list touched up: the answer, the pass over the list, what a caller knows.
+pub mod Promise
+pub mod Pass
+pub mod Callers
