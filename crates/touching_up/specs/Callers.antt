@@ -42,22 +42,22 @@ module _ {n : ℕ} {a : BlockList} {x y v : ℕ} {before after : BlockList} {r :
   list-next h = number-answered ∙ number-of-list n a x y v before h
 
   pub twenty-one-then : numberOf n a ≡ 0 → (2 ^ n ≤ x) ⊎ (2 ^ n ≤ y) → r .number ≡ 21
-  twenty-one-then e h = number-answered ∙ number-outside n a x y v before e (one-beyond n x y h)
+  twenty-one-then e h = number-answered ∙ number-outside n a x y v before e (one-beyond (2 ^ n) x y h)
 
   pub eight-comes-last : numberOf n a ≡ 0 → x < 2 ^ n → y < 2 ^ n → (RoomFor (4 ^ n) before → ⊥) → r .number ≡ 8
-  eight-comes-last e g h short = number-answered ∙ number-of-lent n a x y v before e (both-below n x y g h) ∙ short-unless-room (4 ^ n) before short
+  eight-comes-last e g h short = number-answered ∙ number-of-lent n a x y v before e (both-below (2 ^ n) x y g h) ∙ short-unless-room (4 ^ n) before short
 
   -- An accepted list, a pixel of its image and room for the result are never refused, and nothing else is accepted.
   pub not-refused : numberOf n a ≡ 0 → x < 2 ^ n → y < 2 ^ n → RoomFor (4 ^ n) before → r .number ≡ 0
-  not-refused e g h room = number-answered ∙ number-of-lent n a x y v before e (both-below n x y g h) ∙ none-short (4 ^ n) before room
+  not-refused e g h room = number-answered ∙ number-of-lent n a x y v before e (both-below (2 ^ n) x y g h) ∙ none-short (4 ^ n) before room
 
   pub accepted-only : r .number ≡ 0 → (numberOf n a ≡ 0) × (x < 2 ^ n) × (y < 2 ^ n) × RoomFor (4 ^ n) before
   unfolding touchUpNumber
   accepted-only ok =
       let none : touchUpNumber n a x y before ≡ 0 = sym number-answered ∙ ok in
-      let one = first-zero (numberOf n a) (first (when (outside n x y) 21) (when (tooShort (4 ^ n) before) 8)) none in
-      let two = first-zero (when (outside n x y) 21) (when (tooShort (4 ^ n) before) 8) (one .1) in
-      let pixel = in-image n x y (when-zero (outside n x y) 21 (omega arith) (two .0)) in
+      let one = first-zero (numberOf n a) (first (when (outside (2 ^ n) x y) 21) (when (tooShort (4 ^ n) before) 8)) none in
+      let two = first-zero (when (outside (2 ^ n) x y) 21) (when (tooShort (4 ^ n) before) 8) (one .1) in
+      let pixel = in-image (2 ^ n) x y (when-zero (outside (2 ^ n) x y) 21 (omega arith) (two .0)) in
       (one .0, pixel .0, pixel .1, room-unless-short (4 ^ n) before (two .1))
 
   -- After a refusal the count is 0 and all lists are as they were.

@@ -20,7 +20,7 @@ use Rattle.touching_up.specs.Promise.{repainted}
 
 -- Where the piece ends that begins at the code `from`, in a block that ends at `ending`: the pixel c is a piece of its own.
 unfoldable pub pieceEnd : ℕ → ℕ → ℕ → ℕ
-pieceEnd from c ending = cond (eqb from c) (from + 1) (cond (ltb from c) (min c ending) ending)
+pieceEnd from c ending = cond (ltb from c) (min c ending) (cond (ltb c from) ending (from + 1))
 
 -- Its colour: that of its block, or that of the pixel.
 unfoldable pub pieceColour : ℕ → ℕ → ℕ → ℕ → ℕ
@@ -39,21 +39,21 @@ pub record Passing (n : ℕ) (a : BlockList) (c v : ℕ) (before now : BlockList
 
 -- ---- the cases of a piece
 
-pub end-of-pixel : (from c ending : ℕ) → from ≡ c → pieceEnd from c ending ≡ from + 1
-unfolding pieceEnd
-end-of-pixel from c ending e = ap (λ (t : Bool). cond t (from + 1) (cond (ltb from c) (min c ending) ending)) (eq-eqb from c e)
-
 pub end-before-pixel : (from c ending : ℕ) → from < c → pieceEnd from c ending ≡ min c ending
 unfolding pieceEnd
-end-before-pixel from c ending l =
-    ap (λ (t : Bool). cond t (from + 1) (cond (ltb from c) (min c ending) ending)) (ne-eqb from c (λ e. omega arith))
-    ∙ ap (λ (t : Bool). cond t (min c ending) ending) (lt-ltb from c l)
+end-before-pixel from c ending l = ap (λ (t : Bool). cond t (min c ending) (cond (ltb c from) ending (from + 1))) (lt-ltb from c l)
 
 pub end-after-pixel : (from c ending : ℕ) → c < from → pieceEnd from c ending ≡ ending
 unfolding pieceEnd
 end-after-pixel from c ending l =
-    ap (λ (t : Bool). cond t (from + 1) (cond (ltb from c) (min c ending) ending)) (ne-eqb from c (λ e. omega arith))
-    ∙ ap (λ (t : Bool). cond t (min c ending) ending) (le-ltb from c (omega arith))
+    ap (λ (t : Bool). cond t (min c ending) (cond (ltb c from) ending (from + 1))) (le-ltb from c (omega arith))
+    ∙ ap (λ (t : Bool). cond t ending (from + 1)) (lt-ltb c from l)
+
+pub end-of-pixel : (from c ending : ℕ) → from ≡ c → pieceEnd from c ending ≡ from + 1
+unfolding pieceEnd
+end-of-pixel from c ending e =
+    ap (λ (t : Bool). cond t (min c ending) (cond (ltb c from) ending (from + 1))) (le-ltb from c (omega arith))
+    ∙ ap (λ (t : Bool). cond t ending (from + 1)) (le-ltb c from (omega arith))
 
 pub colour-of-pixel : (from c old v : ℕ) → from ≡ c → pieceColour from c old v ≡ v
 unfolding pieceColour

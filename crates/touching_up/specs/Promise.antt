@@ -1,5 +1,5 @@
 -- What touching up one pixel promises: the answer, and the later content of each list that is written to.
-use mathlib.Core.Path.{_≡_, refl, sym, ap, _∙_}
+use mathlib.Core.Path.{_≡_, refl, sym, ap, ap₂, _∙_}
 use mathlib.Core.Bool.{Bool, true, false, _||_, true≢false}
 use mathlib.Core.Logic.{_⊎_, inl, inr}
 use mathlib.Core.List.{List, [], _∷_}
@@ -8,7 +8,7 @@ use native.Mathlib.Decide.{decLt}
 use native.Mathlib.Omega.{arith}
 use lib.ListN.{length, set}
 use lib.Dec.{leb}
-use borrow.Author.Tests.{le-leb, lt-leb, leb-false}
+use borrow.Author.Tests.{le-leb, lt-leb}
 use Rattle.sequences.specs.Cases.{first, when, first-some, first-none, when-yes, when-no, or-right}
 use Rattle.answers.specs.declared.Written.{Written}
 use Rattle.interleaving.specs.Codes.{code}
@@ -31,38 +31,30 @@ unfoldable pub touchedUp : ℕ → BlockList → ℕ → ℕ → ℕ → List Bl
 unfolding quadtree repainted paint blocks code
 touchedUp n a x y v = quadtree n (repainted (imageOf a) (code n x y) v)
 
--- 21, "x or y not below 2^n".
+-- 21, "x or y not below 2^n": whether (x, y) lies outside an image of side w.
 unfoldable pub outside : ℕ → ℕ → ℕ → Bool
-outside n x y = leb (2 ^ n) x || leb (2 ^ n) y
+outside w x y = leb w x || leb w y
 
--- The second coordinate is asked where the first is below.
-pub outside-by-x : (n x y : ℕ) → 2 ^ n ≤ x → outside n x y ≡ true
+pub one-beyond : (w x y : ℕ) → (w ≤ x) ⊎ (w ≤ y) → outside w x y ≡ true
 unfolding outside
-outside-by-x n x y h = ap (λ (t : Bool). t || leb (2 ^ n) y) (le-leb (2 ^ n) x h)
+one-beyond w x y (inl h) = ap (λ (t : Bool). t || leb w y) (le-leb w x h)
+one-beyond w x y (inr h) = or-right (leb w x) (leb w y) (le-leb w y h)
 
-pub outside-by-y : (n x y : ℕ) → x < 2 ^ n → outside n x y ≡ leb (2 ^ n) y
+pub both-below : (w x y : ℕ) → x < w → y < w → outside w x y ≡ false
 unfolding outside
-outside-by-y n x y h = ap (λ (t : Bool). t || leb (2 ^ n) y) (lt-leb (2 ^ n) x h)
+both-below w x y g h = ap₂ _||_ (lt-leb w x g) (lt-leb w y h)
 
-pub one-beyond : (n x y : ℕ) → (2 ^ n ≤ x) ⊎ (2 ^ n ≤ y) → outside n x y ≡ true
-unfolding outside
-one-beyond n x y (inl h) = outside-by-x n x y h
-one-beyond n x y (inr h) = or-right (leb (2 ^ n) x) (leb (2 ^ n) y) (le-leb (2 ^ n) y h)
-
-pub both-below : (n x y : ℕ) → x < 2 ^ n → y < 2 ^ n → outside n x y ≡ false
-both-below n x y g h = outside-by-y n x y g ∙ lt-leb (2 ^ n) y h
-
-pub in-image : (n x y : ℕ) → outside n x y ≡ false → (x < 2 ^ n) × (y < 2 ^ n)
-in-image n x y h = pick (decLt x (2 ^ n))
+pub in-image : (w x y : ℕ) → outside w x y ≡ false → (x < w) × (y < w)
+in-image w x y h = (pick x (λ l. inl l) (decLt x w), pick y (λ l. inr l) (decLt y w))
   where
-    pick : Dec (x < 2 ^ n) → (x < 2 ^ n) × (y < 2 ^ n)
-    pick (yes l) = (l, leb-false (2 ^ n) y (sym (outside-by-y n x y l) ∙ h))
-    pick (no l) = absurd (true≢false (sym (outside-by-x n x y (omega arith)) ∙ h))
+    pick : (z : ℕ) → (w ≤ z → (w ≤ x) ⊎ (w ≤ y)) → Dec (z < w) → z < w
+    pick z far (yes l) = l
+    pick z far (no l) = absurd (true≢false (sym (one-beyond w x y (far (omega arith))) ∙ h))
 
 -- "Checks: 1 to 7, then new 21 (x or y not below 2^n), then 8 for output lists of 4^n" (document 02, request j).
 unfoldable pub touchUpNumber : ℕ → BlockList → ℕ → ℕ → BlockList → ℕ
 unfolding first when number outside oneShort
-touchUpNumber n a x y lent = first (numberOf n a) (first (when (outside n x y) 21) (when (tooShort (4 ^ n) lent) 8))
+touchUpNumber n a x y lent = first (numberOf n a) (first (when (outside (2 ^ n) x y) 21) (when (tooShort (4 ^ n) lent) 8))
 
 -- The pixel (x, y) of the list a touched up with the colour v. The three lists that are written to are `before` and then `after`.
 pub record TouchUp (n : ℕ) (a : BlockList) (x y v : ℕ) (before after : BlockList) (r : Written) : Type 0 where
@@ -73,28 +65,28 @@ pub record TouchUp (n : ℕ) (a : BlockList) (x y v : ℕ) (before after : Block
 module _ (n : ℕ) (a : BlockList) (x y v : ℕ) (lent : BlockList) where
   pub number-of-list : 0 < numberOf n a → touchUpNumber n a x y lent ≡ numberOf n a
   unfolding touchUpNumber
-  number-of-list h = first-some (numberOf n a) (first (when (outside n x y) 21) (when (tooShort (4 ^ n) lent) 8)) h
+  number-of-list h = first-some (numberOf n a) _ h
 
   pub list-refused : {k : ℕ} → k ≡ numberOf n a → (k ≡ 0 → ⊥) → TouchUp n a x y v lent lent (record { number = k; count = 0 })
   list-refused {k} e some = record { writes = writes-none (omega arith) (e ∙ sym (number-of-list (omega (arith, e)))) }
 
   module _ (accepted : numberOf n a ≡ 0) where
-    past-list : touchUpNumber n a x y lent ≡ first (when (outside n x y) 21) (when (tooShort (4 ^ n) lent) 8)
+    past-list : touchUpNumber n a x y lent ≡ first (when (outside (2 ^ n) x y) 21) (when (tooShort (4 ^ n) lent) 8)
     unfolding touchUpNumber
-    past-list = first-none (numberOf n a) (first (when (outside n x y) 21) (when (tooShort (4 ^ n) lent) 8)) accepted
+    past-list = first-none (numberOf n a) (first (when (outside (2 ^ n) x y) 21) (when (tooShort (4 ^ n) lent) 8)) accepted
 
-    pub number-outside : outside n x y ≡ true → touchUpNumber n a x y lent ≡ 21
+    pub number-outside : outside (2 ^ n) x y ≡ true → touchUpNumber n a x y lent ≡ 21
     number-outside h =
-        let e : when (outside n x y) 21 ≡ 21 = when-yes (outside n x y) 21 h in
-        past-list ∙ first-some (when (outside n x y) 21) (when (tooShort (4 ^ n) lent) 8) (omega (arith, e)) ∙ e
+        let e : when (outside (2 ^ n) x y) 21 ≡ 21 = when-yes (outside (2 ^ n) x y) 21 h in
+        past-list ∙ first-some (when (outside (2 ^ n) x y) 21) (when (tooShort (4 ^ n) lent) 8) (omega (arith, e)) ∙ e
 
-    pub pixel-outside : outside n x y ≡ true → TouchUp n a x y v lent lent (record { number = 21; count = 0 })
+    pub pixel-outside : outside (2 ^ n) x y ≡ true → TouchUp n a x y v lent lent (record { number = 21; count = 0 })
     pixel-outside h = record { writes = writes-none (omega arith) (sym (number-outside h)) }
 
-    module _ (inside : outside n x y ≡ false) where
+    module _ (inside : outside (2 ^ n) x y ≡ false) where
       pub number-of-lent : touchUpNumber n a x y lent ≡ when (tooShort (4 ^ n) lent) 8
       number-of-lent =
-          past-list ∙ first-none (when (outside n x y) 21) (when (tooShort (4 ^ n) lent) 8) (when-no (outside n x y) 21 inside)
+          past-list ∙ first-none (when (outside (2 ^ n) x y) 21) (when (tooShort (4 ^ n) lent) 8) (when-no (outside (2 ^ n) x y) 21 inside)
 
       pub too-short : leastLength lent < 4 ^ n → TouchUp n a x y v lent lent (record { number = 8; count = 0 })
       too-short h = record { writes = writes-none (omega arith) (sym (number-of-lent ∙ one-short (4 ^ n) lent h)) }

@@ -3,18 +3,15 @@ use answers::Written;
 use cursors::least;
 use pass::repaint;
 ghost use mathlib.Core.Path.{_≡_};
-ghost use Prim.Native.Nat.{_≤_};
 ghost use Rattle.quadtree.specs.BlockLists.{listOf};
 ghost use Rattle.touching_up.specs.Promise.{outside, TouchUp};
 
 mod pass;
 
-// Whether (x, y) is no pixel of an image of side 2^n.
-fn outside(n: u32, x: u32, y: u32) -> bool
-    requires { ⌜ n ≤ 8 ⌝ }
-    ensures { λ r. ⌜ r ≡ outside n x y ⌝ }
+// Whether x or y is not below the side of an image.
+fn outside(side: usize, x: u32, y: u32) -> bool
+    ensures { λ r. ⌜ r ≡ outside side x y ⌝ }
 {
-    let side = location::side(n);
     side <= x as usize || side <= y as usize
 }
 
@@ -38,11 +35,12 @@ pub fn touch_up(
 {
     let whole = location::pixels(n);
     let room = least(new_codes.len(), least(new_levels.len(), new_colours.len()));
+    let beyond = outside(location::side(n), x, y);
     let number = blocks::check(n, codes, levels, colours);
     if number != 0 {
         return Written { number, count: 0 };
     }
-    if outside(n, x, y) {
+    if beyond {
         return Written {
             number: 21,
             count: 0,

@@ -18,13 +18,13 @@ fn piece_end(from: usize, pixel: usize, ending: usize) -> usize
     requires { ⌜ from < ending ⌝ }
     ensures { λ r. ⌜ r ≡ pieceEnd from pixel ending ⌝ }
 {
-    if from == pixel {
-        return from + 1;
-    }
     if from < pixel {
         return least(pixel, ending);
     }
-    ending
+    if pixel < from {
+        return ending;
+    }
+    from + 1
 }
 
 // The colour of the piece that begins at the code `from`: that of its block, or that of the pixel.

@@ -1,7 +1,7 @@
 -- The tests stand in the order of the numbers: the list's, 21, 8. A refusal writes nothing; past them the pass writes all.
 use mathlib.Core.Path.{_≡_, sym, ap, _∙_}
 use mathlib.Core.Bool.{false}
-use Prim.Native.Nat.{_^_, _≤_, _<_, min}
+use Prim.Native.Nat.{ℕ, _^_, _≤_, _<_, min}
 use native.Mathlib.Omega.{arith}
 use lib.ListN.{length}
 use borrow.Author.Needs.{needs}
@@ -9,7 +9,7 @@ use Rattle.sequences.specs.Powers.{pow2-mono, pow4-mono}
 use Rattle.interleaving.specs.Codes.{code}
 use Rattle.interleaving.specs.Interleaving.{code-below}
 use Rattle.interleaving.specs.Splitting.{code-wider}
-use Rattle.location.specs.Levels.{pixels-are-power}
+use Rattle.location.specs.Levels.{side-is-power, pixels-are-power}
 use Rattle.quadtree.specs.Accepted.{number-zero}
 use Rattle.quadtree.specs.BlockLists.{listOf, numberOf, RoomFor}
 use Rattle.touching_up.specs.Promise.{outside, in-image, list-refused, pixel-outside, too-short, all-repainted}
@@ -18,14 +18,14 @@ use Rattle.touching_up.proofs.touch_up.Tie as tie
 
 -- Where the call began, and where the room is known, seen from where the list is accepted.
 abbrev entry : tie.Else1 → tie.Start
-entry c = c .before .before .before .before .before .before .before .before .before .before .before
+entry c = c .before .before .before .before .before .before .before .before .before .before .before .before .before
 
 abbrev measured : tie.Else1 → tie.After-least2
-measured c = c .before .before
+measured c = c .before .before .before .before
 
 -- Where the list is accepted, seen from where the pixel is inside; where the room is enough, from where the code is known.
 abbrev judged : tie.Else2 → tie.Else1
-judged c = c .before .before
+judged c = c .before
 
 abbrev enough : tie.After-code → tie.Else3
 enough c = c .before
@@ -58,14 +58,20 @@ lent c =
     let long = c .if3 .left in
     record { in-codes = omega (arith, long, room from, whole from); in-levels = omega (arith, long, room from, whole from); in-colours = omega (arith, long, room from, whole from) }
 
--- The pixel lies in the image, so that 16 bits hold its coordinates; its code has no more digits than the image.
-inside : (c : tie.Else2) → let a = entry (judged c) .args in outside (a .n) (a .x) (a .y) ≡ false
-inside c = sym (c .before .outside .ensures) ∙ c .if2 .left
+-- Whether the pixel lies outside. Inside, 16 bits hold its coordinates, and its code has no more digits than the image.
+asked : (c : tie.Else1) → let a = entry c .args in c .before .before .outside .result ≡ outside (2 ^ a .n) (a .x) (a .y)
+asked c =
+    let a = entry c .args in
+    let call = c .before .before in
+    call .outside .ensures ∙ ap (λ (w : ℕ). outside w (a .x) (a .y)) (call .before .side .ensures ∙ side-is-power (a .n) (omega (arith, small c)))
+
+inside : (c : tie.Else2) → let a = entry (judged c) .args in outside (2 ^ a .n) (a .x) (a .y) ≡ false
+inside c = sym (asked (judged c)) ∙ c .if2 .left
 
 below : (c : tie.Else2) → let a = entry (judged c) .args in (a .x < 2 ^ a .n) × (a .y < 2 ^ a .n) × (2 ^ a .n ≤ 256)
 below c =
     let a = entry (judged c) .args in
-    let pixel = in-image (a .n) (a .x) (a .y) (inside c) in
+    let pixel = in-image (2 ^ a .n) (a .x) (a .y) (inside c) in
     (pixel .0, pixel .1, pow2-mono (small (judged c)))
 
 pixel-code : (c : tie.After-code) → let a = entry (judged (enough c .before)) .args in c .code .result ≡ code (a .n) (a .x) (a .y)
@@ -86,11 +92,14 @@ least-requires-2 c κs = search needs
 check-requires : tie.Need-check-requires
 check-requires c κs = search needs
 
+side-requires : tie.Need-side-requires
+side-requires c κs = search needs
+
 outside-requires : tie.Need-outside-requires
-outside-requires c κs = small c
+outside-requires c κs = search needs
 
 returns-2 : tie.Need-returns-2
-returns-2 c = pixel-outside _ _ _ _ _ _ (accepted (c .before .before)) (sym (c .before .outside .ensures) ∙ c .if2 .taken)
+returns-2 c = pixel-outside _ _ _ _ _ _ (accepted (c .before)) (sym (asked (c .before)) ∙ c .if2 .taken)
 
 returns-3 : tie.Need-returns-3
 returns-3 c =
@@ -143,9 +152,10 @@ touch-up-spec =
     pixels-requires
     least-requires
     least-requires-2
+    side-requires
+    outside-requires
     check-requires
     returns
-    outside-requires
     returns-2
     returns-3
     cast-code
