@@ -1,8 +1,8 @@
 /* The functions of libexports.a. A lent list passes as a pointer, which is not null, and its length in entries; a list that is
-   written to overlaps no other list of the call. Each function answers document 01's numbers for bad input of any kind, touches
-   nothing outside the lists that it is lent, and comes to its end. A refusal is its number with every count 0, and leaves all
-   lists as they were; acceptance is number 0. A list that is shorter than its need is 8; a longer one is welcome, and its entries
-   after those that are written stay as they were. */
+   written to overlaps no other list of the call. Each function answers the numbers of documents 01 and 02 for bad input of any
+   kind, touches nothing outside the lists that it is lent, and comes to its end. A refusal is its number with every count 0, and
+   leaves all lists as they were; acceptance is number 0. A list that is shorter than its need is 8; a longer one is welcome, and
+   its entries after those that are written stay as they were. */
 #ifndef NETTLESTAIR_H
 #define NETTLESTAIR_H
 
@@ -88,6 +88,15 @@ struct nettlestair_written nettlestair_overlay(uint32_t n, const uint32_t *first
                                                const uint16_t *second_colours, size_t second_colours_len,
                                                uint32_t *codes, size_t codes_len, uint8_t *levels,
                                                size_t levels_len, uint16_t *colours, size_t colours_len);
+
+/* The merged list of a block list's image with the pixel (x, y) alone changed to a colour, which may be the one that it has: 0, or 1
+   to 7, 21 where x or y is not below 2^n, 8. Each of the three new lists has room for 4^n entries. The number of regions moves by at
+   most 4, that of the unit edges of all outlines by at most 8. */
+struct nettlestair_written nettlestair_touch_up(uint32_t n, const uint32_t *codes, size_t codes_len, const uint8_t *levels,
+                                                size_t levels_len, const uint16_t *colours, size_t colours_len,
+                                                uint32_t x, uint32_t y, uint16_t colour, uint32_t *new_codes,
+                                                size_t new_codes_len, uint8_t *new_levels, size_t new_levels_len,
+                                                uint16_t *new_colours, size_t new_colours_len);
 
 /* The region number of each block, at its place in the labels, and how many regions there are: 0, or 1 to 8. The labels have
    room for one entry a block, the work list for 2 times 4^n; on acceptance that many of its entries are 0. */

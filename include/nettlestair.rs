@@ -1,9 +1,9 @@
 //! The functions of libexports.a for Rust, over the C names of `nettlestair.h` beside this file. Take it into a program as a
 //! module and link `target/staticlib/libexports.a` (`rt staticlib exports`); `examples/trace.rs` shows how.
 //!
-//! Each function answers document 01's numbers for bad input of any kind; acceptance is number 0. A refusal is its number with
-//! every count 0, and leaves all lists as they were. A lent list that is shorter than its need is 8; a longer one is welcome, and
-//! its entries after those that are written stay as they were.
+//! Each function answers the numbers of documents 01 and 02 for bad input of any kind; acceptance is number 0. A refusal is its
+//! number with every count 0, and leaves all lists as they were. A lent list that is shorter than its need is 8; a longer one is
+//! welcome, and its entries after those that are written stay as they were.
 
 #![allow(dead_code)]
 
@@ -131,6 +131,25 @@ extern "C" {
         levels_len: usize,
         colours: *mut u16,
         colours_len: usize,
+    ) -> Written;
+
+    fn nettlestair_touch_up(
+        n: u32,
+        codes: *const u32,
+        codes_len: usize,
+        levels: *const u8,
+        levels_len: usize,
+        colours: *const u16,
+        colours_len: usize,
+        x: u32,
+        y: u32,
+        colour: u16,
+        new_codes: *mut u32,
+        new_codes_len: usize,
+        new_levels: *mut u8,
+        new_levels_len: usize,
+        new_colours: *mut u16,
+        new_colours_len: usize,
     ) -> Written;
 
     fn nettlestair_number(
@@ -305,6 +324,44 @@ pub fn overlay(
             levels.len(),
             colours.as_mut_ptr(),
             colours.len(),
+        )
+    }
+}
+
+/// The merged list of a block list's image with the pixel (x, y) alone changed to a colour, which may be the one that it has: 0, or 1
+/// to 7, 21 where x or y is not below 2^n, 8. Each of the three new lists has room for 4^n entries. The number of regions moves by at
+/// most 4, that of the unit edges of all outlines by at most 8.
+#[allow(clippy::too_many_arguments)]
+pub fn touch_up(
+    n: u32,
+    codes: &[u32],
+    levels: &[u8],
+    colours: &[u16],
+    x: u32,
+    y: u32,
+    colour: u16,
+    new_codes: &mut [u32],
+    new_levels: &mut [u8],
+    new_colours: &mut [u16],
+) -> Written {
+    unsafe {
+        nettlestair_touch_up(
+            n,
+            codes.as_ptr(),
+            codes.len(),
+            levels.as_ptr(),
+            levels.len(),
+            colours.as_ptr(),
+            colours.len(),
+            x,
+            y,
+            colour,
+            new_codes.as_mut_ptr(),
+            new_codes.len(),
+            new_levels.as_mut_ptr(),
+            new_levels.len(),
+            new_colours.as_mut_ptr(),
+            new_colours.len(),
         )
     }
 }

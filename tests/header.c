@@ -107,6 +107,41 @@ int main(void) {
     w = nettlestair_overlay(1, northwest, 4, pixels, 4, before, 4, northwest, 4, pixels, 4, after_cleaning, 4, c, 3, l, 4, k, 4);
     expect("overlay, too short", w.number == 8 && w.count == 0);
 
+    /* the pixel (2, 1), whose code is 6, put into one block and taken out again; the rest of the lists stays */
+    const uint32_t parted_codes[7] = {0, 4, 5, 6, 7, 8, 12};
+    const uint8_t parted_levels[7] = {1, 0, 0, 0, 0, 1, 1};
+    const uint16_t parted_colours[7] = {256, 256, 256, 257, 256, 256, 256};
+    struct {
+        uint32_t codes[17];
+        uint8_t levels[17];
+        uint16_t colours[17];
+    } put_in, taken_out;
+    memset(&put_in, 99, sizeof put_in);
+    memset(&taken_out, 99, sizeof taken_out);
+    w = nettlestair_touch_up(2, northwest, 1, whole, 1, ground, 1, 2, 1, 257, put_in.codes, 17, put_in.levels, 16, put_in.colours, 17);
+    expect("touch up, answer", w.number == 0 && w.count == 7);
+    expect("touch up, codes", !memcmp(put_in.codes, parted_codes, sizeof parted_codes) && LEFT(put_in.codes, 7));
+    expect("touch up, levels", !memcmp(put_in.levels, parted_levels, sizeof parted_levels) && LEFT(put_in.levels, 7));
+    expect("touch up, colours", !memcmp(put_in.colours, parted_colours, sizeof parted_colours) && LEFT(put_in.colours, 7));
+    w = nettlestair_touch_up(2, put_in.codes, 7, put_in.levels, 7, put_in.colours, 7, 2, 1, 256, taken_out.codes, 16,
+                             taken_out.levels, 17, taken_out.colours, 16);
+    expect("touch up, answer of one block", w.number == 0 && w.count == 1);
+    expect("touch up, one block", taken_out.codes[0] == 0 && taken_out.levels[0] == 2 && taken_out.colours[0] == 256);
+    expect("touch up, entries after the block",
+           LEFT(taken_out.codes, 1) && LEFT(taken_out.levels, 1) && LEFT(taken_out.colours, 1));
+
+    /* refusals: a list of unlike lengths before a pixel outside, that before a list too short */
+    memset(&put_in, 99, sizeof put_in);
+    w = nettlestair_touch_up(2, codes, 7, levels, 6, colours, 7, 4, 0, 1, put_in.codes, 15, put_in.levels, 16, put_in.colours, 16);
+    expect("touch up, a faulty list", w.number == 2 && w.count == 0);
+    w = nettlestair_touch_up(2, codes, 7, levels, 7, colours, 7, 4, 0, 1, put_in.codes, 15, put_in.levels, 16, put_in.colours, 16);
+    expect("touch up, x outside", w.number == 21 && w.count == 0);
+    w = nettlestair_touch_up(2, codes, 7, levels, 7, colours, 7, 0, 65536, 1, put_in.codes, 16, put_in.levels, 16, put_in.colours, 16);
+    expect("touch up, y outside", w.number == 21 && w.count == 0);
+    w = nettlestair_touch_up(2, codes, 7, levels, 7, colours, 7, 3, 3, 1, put_in.codes, 16, put_in.levels, 16, put_in.colours, 15);
+    expect("touch up, too short", w.number == 8 && w.count == 0);
+    expect("touch up, refusals", LEFT(put_in.codes, 0) && LEFT(put_in.levels, 0) && LEFT(put_in.colours, 0));
+
     const uint32_t numbers[7] = {0, 0, 0, 1, 0, 0, 2}, zeros[32] = {0};
     uint32_t labels[8], work[33];
     memset(labels, 99, sizeof labels);

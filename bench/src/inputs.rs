@@ -1,8 +1,8 @@
-//! Pictures of one kind and one n, or two of one n, the answers of both sides on them, and the times.
+//! Pictures of one kind and one n, two of one n, or one with its pixels touched up; the answers of both sides on them, and the times.
 
 use crate::nettlestair::Written;
-use crate::pictures::Kind;
-use crate::sides::{Blocks, Lists, Side, Way, LIBRARY, PLAIN};
+use crate::pictures::{Kind, NEW_COLOUR};
+use crate::sides::{Blocks, Lists, Side, Speck, Way, LIBRARY, PLAIN};
 use crate::timing::{compare, Times};
 use std::cell::RefCell;
 use std::hint::black_box;
@@ -183,5 +183,74 @@ impl Pair {
             black_box((side.overlay)(self.n, self.first.blocks(), self.second.blocks(), codes, levels, colours));
         };
         compare(|| job(&LIBRARY), || job(&PLAIN))
+    }
+}
+
+/// A picture and pixels spread over it. Each is touched up alone, in a colour that the picture does not have, and then in its own again,
+/// which gives the first list.
+pub struct Specks {
+    n: u32,
+    picture: Input,
+    places: Vec<usize>,
+}
+
+/// The lists that touching up is lent, first for the speck put in and then for the speck taken out.
+type TwoLists = [(Vec<u32>, Vec<u8>, Vec<u16>); 2];
+
+impl Specks {
+    /// How many pixels are touched up.
+    pub const COUNT: usize = 16;
+
+    /// The pixels stand in four rows of four.
+    pub fn new(kind: &Kind, n: u32) -> Specks {
+        let side = 1 << n;
+        let along = |k: usize| side / 8 + k * side / 4;
+        let places = (0..Specks::COUNT).map(|k| along(k / 4) * side + along(k % 4)).collect();
+        Specks { n, picture: Input::new(kind, n, 0), places }
+    }
+
+    fn lists(&self) -> TwoLists {
+        let whole = self.picture.raster.len();
+        [(); 2].map(|()| (vec![9; whole], vec![9; whole], vec![9; whole]))
+    }
+
+    /// Puts a speck in at a place and takes it out again.
+    fn touch_up(&self, side: &Side, place: usize, [put_in, taken_out]: &mut TwoLists) -> [Written; 2] {
+        let n = self.n;
+        let in_colour = |colour: u16| Speck { x: place as u32 % (1 << n), y: place as u32 >> n, colour };
+        let (codes, levels, colours) = put_in;
+        let first = (side.touch_up)(n, self.picture.blocks(), in_colour(NEW_COLOUR), (codes, levels, colours));
+        let count = first.count as usize;
+        let with_speck = Blocks { codes: &codes[..count], levels: &levels[..count], colours: &colours[..count] };
+        let (codes, levels, colours) = taken_out;
+        let own = in_colour(self.picture.raster[place]);
+        [first, (side.touch_up)(n, with_speck, own, (codes, levels, colours))]
+    }
+
+    /// The blocks of the picture, and the most that it has with one speck.
+    pub fn blocks(&self) -> [usize; 2] {
+        let mut lists = self.lists();
+        let counts = self.places.iter().map(|&place| self.touch_up(&PLAIN, place, &mut lists)[0].count as usize);
+        [self.picture.codes.len(), counts.max().unwrap_or(0)]
+    }
+
+    /// The answers on fresh lists, and every entry of the lists, are equal.
+    pub fn equal(&self) -> bool {
+        let answers = |side: &Side, place: usize| {
+            let mut lists = self.lists();
+            (self.touch_up(side, place, &mut lists), lists)
+        };
+        self.places.iter().all(|&place| answers(&LIBRARY, place) == answers(&PLAIN, place))
+    }
+
+    /// The times of one call.
+    pub fn time(&self) -> Times {
+        let lists = RefCell::new(self.lists());
+        let job = |side: &Side| {
+            for &place in &self.places {
+                black_box(self.touch_up(side, place, &mut lists.borrow_mut()));
+            }
+        };
+        compare(|| job(&LIBRARY), || job(&PLAIN)).of_one_in(2 * self.places.len())
     }
 }

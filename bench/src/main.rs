@@ -25,6 +25,7 @@ Times the proved library (target/staticlib/libexports.a) against a plain Rust im
   rasters    blocks_from_raster and raster_from_blocks at n = 8, and read_pgm of one byte a sample and of two
   orders     to_block_order and from_block_order at n = 6 and n = 8
   overlay    one picture laid over another at n = 8
+  touch-up   single pixels of a picture touched up at n = 8
   codes      a code for each pixel of 256 by 256
   all        all of these (without MODE)
 
@@ -38,8 +39,9 @@ fn main() -> ExitCode {
         "rasters" => &[report::rasters],
         "orders" => &[report::orders],
         "overlay" => &[report::overlay],
+        "touch-up" => &[report::touch_up],
         "codes" => &[report::codes],
-        "all" => &[report::outlines, report::rasters, report::orders, report::overlay, report::codes],
+        "all" => &[report::outlines, report::rasters, report::orders, report::overlay, report::touch_up, report::codes],
         "help" | "--help" | "-h" => {
             print!("{HELP}");
             return ExitCode::SUCCESS;

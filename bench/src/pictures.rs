@@ -14,11 +14,12 @@ const NOISE_OF_2: Kind = Kind { name: "noise of 2 colours", raster: |n, seed| no
 pub const NOISE_OF_256: Kind = Kind { name: "noise of 256 colours", raster: |n, seed| noise(n, 256, seed) };
 const ONE_COLOUR: Kind = Kind { name: "one colour", raster: |n, _| vec![7; 1 << (2 * n)] };
 const CLOCK_DIAL: Kind = Kind { name: "clock dial", raster: clock };
+const BLOBS: Kind = Kind { name: "blobs", raster: blobs };
 
 pub const KINDS: [Kind; 9] = [
     NOISE_OF_2,
     NOISE_OF_256,
-    Kind { name: "blobs", raster: blobs },
+    BLOBS,
     Kind { name: "rings", raster: rings },
     Kind { name: "checkerboard", raster: |n, _| checkerboard(n) },
     Kind { name: "spiral", raster: |n, _| spiral(n) },
@@ -35,6 +36,12 @@ pub const PAIRS: [(&str, [Kind; 2]); 5] = [
     ("noise of 256 over one colour", [NOISE_OF_256, ONE_COLOUR]),
     ("two clock dials", [CLOCK_DIAL, CLOCK_DIAL]),
 ];
+
+/// Pictures of which single pixels are touched up.
+pub const TOUCHED_UP: [Kind; 5] = [CLOCK_DIAL, BLOBS, NOISE_OF_2, NOISE_OF_256, ONE_COLOUR];
+
+/// A colour that no picture has.
+pub const NEW_COLOUR: u16 = 256;
 
 /// The raster whose pixel (x, y) has the colour `colour(x, y)`.
 fn drawn(n: u32, colour: impl Fn(usize, usize) -> u16) -> Vec<u16> {

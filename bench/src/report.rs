@@ -1,7 +1,7 @@
 //! What is timed and how it is told.
 
-use crate::inputs::{Inputs, Pair};
-use crate::pictures::{self, KINDS, NOISE_OF_256, PAIRS};
+use crate::inputs::{Inputs, Pair, Specks};
+use crate::pictures::{self, KINDS, NOISE_OF_256, PAIRS, TOUCHED_UP};
 use crate::plain::spread_code;
 use crate::sides::{Side, LIBRARY, PLAIN};
 use crate::timing::{compare, Times, SAMPLES};
@@ -186,6 +186,31 @@ pub fn overlay() -> bool {
         let [first, second, merged] = largest.blocks();
         println!(
             "{name:<28} {first:>7} {second:>7} {merged:>7} | {} | {}",
+            columns(largest.time()),
+            if same { "equal" } else { "DIFFERENT" }
+        );
+        equal &= same;
+    }
+    equal
+}
+
+/// Single pixels touched up at n = 8. Says whether all answers were equal.
+pub fn touch_up() -> bool {
+    let mut equal = true;
+    println!("\nn = 8, microseconds for one pixel touched up (plain Rust clears a raster of its own)");
+    println!(
+        "{} pixels spread over the picture, each in a new colour and in its own again; the time is the mean",
+        Specks::COUNT
+    );
+    println!("{:<28} {:^15} | {:^28} |", "", "blocks", "touch_up");
+    println!("{:<28} {:>7} {:>7} | {HEADING} | answers", "", "without", "with");
+    for kind in &TOUCHED_UP {
+        let same = SIZES.map(|n| Specks::new(kind, n)).all(|specks| specks.equal());
+        let largest = Specks::new(kind, *SIZES.end());
+        let [without, with] = largest.blocks();
+        println!(
+            "{:<28} {without:>7} {with:>7} | {} | {}",
+            kind.name,
             columns(largest.time()),
             if same { "equal" } else { "DIFFERENT" }
         );

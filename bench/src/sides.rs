@@ -19,6 +19,17 @@ impl<'a> Blocks<'a> {
     }
 }
 
+/// A pixel, and the colour that it gets.
+#[derive(Clone, Copy)]
+pub struct Speck {
+    pub x: u32,
+    pub y: u32,
+    pub colour: u16,
+}
+
+/// The lists that touching up is lent: codes, levels, colours.
+pub type NewLists<'a> = (&'a mut [u32], &'a mut [u8], &'a mut [u16]);
+
 /// What a tracing is lent besides the block list.
 pub struct Lent<'a> {
     pub labels: &'a mut [u32],
@@ -44,6 +55,7 @@ pub struct Side {
     pub to_block_order: Way,
     pub from_block_order: Way,
     pub overlay: fn(u32, Blocks, Blocks, &mut [u32], &mut [u8], &mut [u16]) -> Written,
+    pub touch_up: fn(u32, Blocks, Speck, NewLists) -> Written,
     pub read_pgm: fn(&[u8], &mut [u16]) -> Picture,
 }
 
@@ -65,6 +77,10 @@ pub const LIBRARY: Side = Side {
     overlay: |n, a, b, codes, levels, colours| {
         nettlestair::overlay(n, a.codes, a.levels, a.colours, b.codes, b.levels, b.colours, codes, levels, colours)
     },
+    touch_up: |n, blocks, Speck { x, y, colour }, (new_codes, new_levels, new_colours)| {
+        let Blocks { codes, levels, colours } = blocks;
+        nettlestair::touch_up(n, codes, levels, colours, x, y, colour, new_codes, new_levels, new_colours)
+    },
     read_pgm: nettlestair::read_pgm,
 };
 
@@ -78,6 +94,7 @@ pub const PLAIN: Side = Side {
     to_block_order: plain::to_block_order,
     from_block_order: plain::from_block_order,
     overlay: plain::overlay,
+    touch_up: plain::touch_up,
     read_pgm: plain::read_pgm,
 };
 

@@ -5,6 +5,7 @@ use crate::lent::{Entry, Lent};
 use crate::model::blocks::Blocks;
 use crate::model::orders::{in_block_order, in_rows};
 use crate::model::pgm::Read;
+use crate::model::touching_up::Speck;
 use crate::nettlestair::{self, Numbered, Picture, Traced, Written};
 use crate::random::Random;
 use std::fmt::{Debug, Display};
@@ -92,6 +93,16 @@ pub fn overlay(random: &mut Random, n: u32, first: &Blocks, second: &Blocks, len
                     n, &a.codes, &a.levels, &a.colours, &b.codes, &b.levels, &b.colours, codes, levels, colours,
                 )
             })
+        })
+    })
+}
+
+/// One pixel of a block list's image touched up, with new lists of the given lengths.
+pub fn touch_up(random: &mut Random, n: u32, blocks: &Blocks, speck: Speck, lengths: [usize; 3]) -> BlocksOut {
+    let Speck { x, y, colour } = speck;
+    handed_in(blocks, |Blocks { codes, levels, colours }| {
+        BlocksOut::of(random, lengths, |new_codes, new_levels, new_colours| {
+            nettlestair::touch_up(n, codes, levels, colours, x, y, colour, new_codes, new_levels, new_colours)
         })
     })
 }

@@ -1,18 +1,21 @@
-//! Causes 1 to 8 of block lists: each alone, each pair that can occur together, and their order, in one list and in two.
+//! Causes 1 to 8 of block lists, and 21 of a pixel: each alone, each pair that can occur together, and their order, in one list and in
+//! two.
 
 use std::collections::BTreeSet;
-use tests::calls::{agrees, number as numbering, overlay, raster_from_blocks, trace};
+use tests::calls::{agrees, number as numbering, overlay, raster_from_blocks, touch_up, trace, BlocksOut};
 use tests::cases::Cases;
 use tests::expected::{needs, Model};
 use tests::faults;
 use tests::model::blocks::{conditions, number, paint, quadtree, Blocks};
 use tests::model::overlay::overlay as overlaid;
+use tests::model::touching_up::{touch_up as touched_up, Speck};
 use tests::nettlestair::check;
 use tests::random::Random;
 use tests::rasters;
 
-/// Holds the check, blocks to raster, numbering, tracing and the laying of one list over another to one number, with lists that are
-/// long enough and with shorter ones, for tracing also with the area list alone one too short: 8 is looked for after 1 to 7.
+/// Holds the check, blocks to raster, numbering, tracing, the laying of one list over another and the touching up of pixels inside and
+/// outside to one number, with lists that are long enough and with shorter ones, for tracing also with the area list alone one too short:
+/// 21 and 8 are looked for after 1 to 7.
 fn judged(what: &str, random: &mut Random, n: u32, blocks: &Blocks, expected: u32) {
     let Blocks { codes, levels, colours } = blocks;
     assert_eq!(check(n, codes, levels, colours), expected, "{what}: check of n = {n}, {blocks}");
@@ -26,15 +29,19 @@ fn judged(what: &str, random: &mut Random, n: u32, blocks: &Blocks, expected: u3
         };
         agrees(format_args!("{what}: raster of {length} from n = {n}, {blocks}"), difference);
     }
-    let accepted = list(&[(0, n as u8, 256)]);
-    for (first, second) in [(blocks, &accepted), (&accepted, blocks), (blocks, blocks)] {
-        for lengths in [[need; 3], [need - 1; 3], [0; 3]] {
+    let accepted = Blocks::of(&[(0, n as u8, 256)]);
+    let [x, y] = [(); 2].map(|()| random.below(if n > 8 { 512 } else { 1 << n }) as u32);
+    let colour = [256, random.colour()][random.below(2)];
+    for lengths in [[need; 3], [need - 1; 3], [0; 3]] {
+        for (first, second) in [(blocks, &accepted), (&accepted, blocks), (blocks, blocks)] {
             let out = overlay(random, n, first, second, lengths);
-            let difference = match expected {
-                0 => out.difference_from_model(&overlaid(n, first, second, lengths)),
-                _ => out.difference_from_refusal(expected),
-            };
+            let difference = differs(expected, &out, || overlaid(n, first, second, lengths));
             agrees(format_args!("{what}: n = {n}, {first} over {second}, lists of {lengths:?}"), difference);
+        }
+        for speck in [(x, y), (x + 512, y), (x, y + 512)].map(|(x, y)| Speck { x, y, colour }) {
+            let out = touch_up(random, n, blocks, speck, lengths);
+            let difference = differs(expected, &out, || touched_up(n, blocks, speck, lengths));
+            agrees(format_args!("{what}: n = {n}, {speck} of {blocks}, lists of {lengths:?}"), difference);
         }
     }
     let model = Model::of(n, blocks);
@@ -52,6 +59,14 @@ fn judged(what: &str, random: &mut Random, n: u32, blocks: &Blocks, expected: u3
         let out = trace(random, n, blocks, lengths);
         let difference = out.difference(&model.tracing(lengths));
         agrees(format_args!("{what}: outlines with lists of {lengths:?} from n = {n}, {blocks}"), difference);
+    }
+}
+
+/// What differs from a refusal with this cause or, where it is 0, from what the model answers.
+fn differs(cause: u32, out: &BlocksOut, model: impl FnOnce() -> Result<Blocks, u32>) -> Option<String> {
+    match cause {
+        0 => out.difference_from_model(&model()),
+        _ => out.difference_from_refusal(cause),
     }
 }
 
@@ -197,21 +212,13 @@ const ROWS: &[Row] = &[
     Row { what: "6 and 7", n: 2, blocks: &[(0, 0, 1), (1, 0, 1), (2, 0, 1), (3, 0, 1)], causes: &[6, 7], number: 6 },
 ];
 
-fn list(rows: &[(u32, u8, u16)]) -> Blocks {
-    let mut blocks = Blocks::default();
-    for &(code, level, colour) in rows {
-        blocks.push(code, level, colour);
-    }
-    blocks
-}
-
 #[test]
 fn each_cause_and_each_pair() {
     let mut cases = Cases::of("causes");
     let mut random = Random::of("causes");
     let mut seen = BTreeSet::new();
     for row in ROWS {
-        let blocks = list(row.blocks);
+        let blocks = Blocks::of(row.blocks);
         let Blocks { codes, levels, colours } = &blocks;
         assert_eq!(conditions(row.n, codes, levels, colours), row.causes, "{}: the row's causes", row.what);
         assert_eq!(number(row.n, codes, levels, colours), row.number, "{}: the model", row.what);
@@ -233,7 +240,7 @@ fn each_cause_and_each_pair() {
 /// Cause 2 beside those of a row. It is answered after 1 and before all else.
 fn unlike_lengths(row: &Row, random: &mut Random, cases: &mut Cases) -> Vec<Vec<u32>> {
     let expected = if row.n > 8 { 1 } else { 2 };
-    let variants = of_unlike_lengths(&list(row.blocks));
+    let variants = of_unlike_lengths(&Blocks::of(row.blocks));
     for blocks in &variants {
         assert_eq!(number(row.n, &blocks.codes, &blocks.levels, &blocks.colours), expected, "{}: the model", row.what);
         judged(row.what, random, row.n, blocks, expected);
@@ -267,18 +274,25 @@ fn of_unlike_lengths(whole: &Blocks) -> Vec<Blocks> {
     variants
 }
 
+/// The lists of the rows with this n, also of unlike lengths, each with its number.
+fn lists_of(n: u32) -> Vec<(u32, Blocks)> {
+    let mut lists = Vec::new();
+    for row in ROWS.iter().filter(|row| row.n == n) {
+        let blocks = Blocks::of(row.blocks);
+        let unlike = if n > 8 { 1 } else { 2 };
+        lists.extend(of_unlike_lengths(&blocks).into_iter().map(|blocks| (unlike, blocks)));
+        lists.push((row.number, blocks));
+    }
+    lists
+}
+
 /// One list over another: of each pair of lists with n = 1 the first one's cause is answered before the second one's, and that before
 /// 8, which one list that is too short suffices for. With n = 9 all of them are 1.
 #[test]
 fn causes_of_two_lists() {
     let mut cases = Cases::of("causes of two lists");
     let mut random = Random::of("causes of two lists");
-    let mut lists = Vec::new();
-    for row in ROWS.iter().filter(|row| row.n == 1) {
-        let blocks = list(row.blocks);
-        lists.extend(of_unlike_lengths(&blocks).into_iter().map(|unlike| (2, unlike)));
-        lists.push((row.number, blocks));
-    }
+    let lists = lists_of(1);
     let mut seen = BTreeSet::new();
     for (a, first) in &lists {
         for (b, second) in &lists {
@@ -303,6 +317,70 @@ fn causes_of_two_lists() {
     cases.end();
 }
 
+/// Pixels in an image of side 2^n, and others: one coordinate alone outside or both, just outside or far, also such that the low digits
+/// alone are those of a pixel inside. Each with 0 or 21.
+fn pixels(n: u32) -> Vec<(u32, u32, u32)> {
+    let side = 1 << n;
+    let last = side - 1;
+    let inside = [(0, 0), (last, 0), (0, last), (last, last), (last / 2, last)].map(|(x, y)| (x, y, 0));
+    let far = [8, 9, 15, 16, 24, 30, 31].map(|digit| (1 << digit) | (last / 2));
+    let outside = far.into_iter().chain([side, side + 1, 2 * side, u32::MAX - last, u32::MAX]).filter(|&z| z > last);
+    let with_one = outside.flat_map(|z| [(z, 0), (0, z), (z, last), (last, z), (z, z), (z, u32::MAX), (side, z)]);
+    inside.into_iter().chain(with_one.map(|(x, y)| (x, y, 21))).collect()
+}
+
+/// Touching up: a list's cause is answered before 21, and that before 8, which one list that is too short suffices for.
+#[test]
+fn causes_of_touching_up() {
+    let mut cases = Cases::of("causes of touching up");
+    let mut random = Random::of("causes of touching up");
+    let mut seen = BTreeSet::new();
+    for n in [0, 1, 2, 3, 9] {
+        let need = if n > 8 { 16 } else { 1 << (2 * n) };
+        for (a, blocks) in &lists_of(n) {
+            for (x, y, b) in pixels(n) {
+                for (short, c) in [([0; 3], 0), ([1, 0, 0], 8), ([0, 1, 0], 8), ([0, 0, 1], 8), ([need; 3], 8)] {
+                    let number = [*a, b, c].into_iter().find(|&number| number != 0);
+                    let lengths = short.map(|short| need - short);
+                    let speck = Speck { x, y, colour: random.colour() };
+                    let expected = touched_up(n, blocks, speck, lengths);
+                    assert_eq!(expected.as_ref().err().copied(), number, "the model: n = {n}, {speck} of {blocks}");
+                    let out = touch_up(&mut random, n, blocks, speck, lengths);
+                    let difference = out.difference_from_model(&expected);
+                    agrees(format_args!("n = {n}, {speck} of {blocks}, lists of {lengths:?}"), difference);
+                    seen.insert((*a, b, c));
+                    cases.ran();
+                }
+            }
+        }
+    }
+    let numbers = (0..=7).flat_map(|a| [0, 21].map(|b| (a, b)));
+    assert_eq!(seen, numbers.flat_map(|(a, b)| [(a, b, 0), (a, b, 8)]).collect());
+    cases.end();
+}
+
+/// Touching up images of every side: 21 exactly for the pixels outside, before 8.
+#[test]
+fn pixels_outside() {
+    let mut cases = Cases::of("pixels outside");
+    let mut random = Random::of("pixels outside");
+    for n in (0..=5).cycle().take(24).chain(6..=8) {
+        let raster = rasters::any(&mut random, n);
+        let blocks = quadtree(n, &raster);
+        let need = raster.len();
+        for (x, y, number) in pixels(n) {
+            let speck = Speck { x, y, colour: raster[random.below(need)] };
+            for lengths in [[need + 1, need, need], [need + 1, need - 1, need]] {
+                let out = touch_up(&mut random, n, &blocks, speck, lengths);
+                let difference = differs(number, &out, || touched_up(n, &blocks, speck, lengths));
+                agrees(format_args!("n = {n}, {speck} of {blocks}, lists of {lengths:?}"), difference);
+                cases.ran();
+            }
+        }
+    }
+    cases.end();
+}
+
 #[test]
 fn large_n_is_refused_before_all_else() {
     let mut cases = Cases::of("large n");
@@ -311,7 +389,7 @@ fn large_n_is_refused_before_all_else() {
     sides.extend([255, 256, 257, 264, 65535, 65536, 65544, 1 << 30, 1 << 31, (1 << 31) + 4, u32::MAX - 7, u32::MAX]);
     for n in sides {
         for row in ROWS {
-            judged(row.what, &mut random, n, &list(row.blocks), 1);
+            judged(row.what, &mut random, n, &Blocks::of(row.blocks), 1);
             cases.ran();
         }
     }
@@ -346,7 +424,7 @@ fn siblings_of_two_colours() {
                     lists.push((2, before.chain(four(4 * quadrant, 0)).chain(after).collect()));
                 }
                 for (n, blocks) in lists {
-                    judged("siblings", &mut random, n, &list(&blocks), expected);
+                    judged("siblings", &mut random, n, &Blocks::of(&blocks), expected);
                     cases.ran();
                 }
             }

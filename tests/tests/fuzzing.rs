@@ -14,6 +14,7 @@ use tests::model::orders::{raster_number, rearranged};
 use tests::model::overlay::overlay as overlaid;
 use tests::model::paths;
 use tests::model::pgm::read_into;
+use tests::model::touching_up::{touch_up as touched_up, Speck};
 use tests::nettlestair::{self, Stretch};
 use tests::outlines::random_outline;
 use tests::pictures::sample_bytes;
@@ -25,7 +26,7 @@ use tests::rasters;
 type Try = fn(random: &mut Random, wrong: u32) -> (u32, Option<String>);
 
 /// Each function with the numbers that it can answer; a location code and the stretch of a cycle have none.
-const FUNCTIONS: [(&str, Try, &[u32]); 13] = [
+const FUNCTIONS: [(&str, Try, &[u32]); 14] = [
     ("fuzzing, codes", code, &[0]),
     ("fuzzing, check", check, &[0, 1, 2, 3, 4, 5, 6, 7]),
     ("fuzzing, raster to blocks", blocks_from_raster, &[0, 1, 8, 9]),
@@ -33,6 +34,7 @@ const FUNCTIONS: [(&str, Try, &[u32]); 13] = [
     ("fuzzing, to block order", |random, wrong| rearranging(random, wrong, &TO_BLOCK_ORDER), &[0, 1, 8, 9]),
     ("fuzzing, from block order", |random, wrong| rearranging(random, wrong, &FROM_BLOCK_ORDER), &[0, 1, 8, 9]),
     ("fuzzing, one list over another", overlay, &[0, 1, 2, 3, 4, 5, 6, 7, 8]),
+    ("fuzzing, one pixel touched up", touch_up, &[0, 1, 2, 3, 4, 5, 6, 7, 8, 21]),
     ("fuzzing, numbers", numbering, &[0, 1, 2, 3, 4, 5, 6, 7, 8]),
     ("fuzzing, outlines", tracing, &[0, 1, 2, 3, 4, 5, 6, 7, 8]),
     ("fuzzing, stretches", cycle, &[0]),
@@ -217,6 +219,35 @@ fn overlay(random: &mut Random, wrong: u32) -> (u32, Option<String>) {
     let difference = out.difference_from_model(&expected);
     let number = expected.err().unwrap_or(0);
     (number, difference.map(|d| format!("n = {n}, {first} over {second}, lengths {lengths:?}: {d}")))
+}
+
+/// A coordinate: inside mostly, at times just outside or far, with low digits that are inside or any.
+fn coordinate(random: &mut Random, n: u32) -> u32 {
+    let inside = random.below(1 << drawn(n)) as u32;
+    match random.below(20) {
+        0 => 1 << drawn(n),
+        1 => inside | 1 << random.below(32),
+        2 => random.word() >> random.below(32),
+        _ => inside,
+    }
+}
+
+/// A pixel of a block list, in one of its colours mostly.
+fn touch_up(random: &mut Random, wrong: u32) -> (u32, Option<String>) {
+    let (n, blocks) = block_list(random);
+    let [x, y] = [(); 2].map(|()| coordinate(random, n));
+    let colour = match random.below(4) {
+        0 => random.colour(),
+        _ => blocks.colours.get(random.below(blocks.len().max(1))).copied().unwrap_or(0),
+    };
+    let speck = Speck { x, y, colour: if random.below(8) == 0 { colour ^ 1 << random.below(16) } else { colour } };
+    let lengths = [1 << (2 * drawn(n)); 3].map(|need| length(random, need));
+    let expected = touched_up(n, &blocks, speck, lengths);
+    let mut out = calls::touch_up(random, n, &blocks, speck, lengths);
+    out.written.count += wrong;
+    let difference = out.difference_from_model(&expected);
+    let number = expected.err().unwrap_or(0);
+    (number, difference.map(|d| format!("n = {n}, {speck} of {blocks}, lengths {lengths:?}: {d}")))
 }
 
 fn numbering(random: &mut Random, wrong: u32) -> (u32, Option<String>) {

@@ -1,19 +1,26 @@
 //! What becomes of lent lists: tails stay, lists one too short are refused, a refusal leaves everything.
 
 use tests::calls::{
-    agrees, blocks_from_raster, overlay, raster_from_blocks, BlocksOut, Out, FROM_BLOCK_ORDER, TO_BLOCK_ORDER,
+    agrees, blocks_from_raster, overlay, raster_from_blocks, touch_up, BlocksOut, Out, FROM_BLOCK_ORDER, TO_BLOCK_ORDER,
 };
 use tests::cases::Cases;
 use tests::damage::each_place;
 use tests::model::blocks::{quadtree, Blocks};
 use tests::model::orders::{in_block_order, raster_number, rearranged};
 use tests::model::overlay::larger;
+use tests::model::touching_up::{repainted, Speck};
 use tests::nettlestair::Written;
 use tests::random::Random;
 use tests::rasters;
 
-/// Rasters to blocks and one list over another: 8 in each of the three lists alone, in two and in all. The need is 4^n whatever the
-/// answer would use.
+/// A pixel of an image of side 2^n, and the colour that it gets: one of these, or any.
+fn any_speck(random: &mut Random, n: u32, colours: &[u16]) -> Speck {
+    let [x, y] = [(); 2].map(|()| random.below(1 << n) as u32);
+    Speck { x, y, colour: [colours[random.below(colours.len())], random.colour()][random.below(2)] }
+}
+
+/// Rasters to blocks, one list over another and one pixel touched up: 8 in each of the three lists alone, in two and in all. The need is
+/// 4^n whatever the answer would use.
 #[test]
 fn block_lists_too_short() {
     let mut cases = Cases::of("block lists too short");
@@ -27,9 +34,11 @@ fn block_lists_too_short() {
                 for missing in [1, need] {
                     let length = |list: u32| if short >> list & 1 == 1 { need - missing } else { need + list as usize };
                     let lengths = [0, 1, 2].map(length);
+                    let speck = any_speck(&mut random, n, raster);
                     for out in [
                         blocks_from_raster(&mut random, n, raster, lengths),
                         overlay(&mut random, n, &first, &second, lengths),
+                        touch_up(&mut random, n, &first, speck, lengths),
                     ] {
                         agrees(
                             format_args!("n = {n}, lists {short:03b} short by {missing}"),
@@ -131,9 +140,12 @@ fn damage_is_seen() {
             let more = raster.len() + 2;
             let other = rasters::any(&mut random, n);
             let (second, over) = (quadtree(n, &other), quadtree(n, &larger(&raster, &other)));
+            let speck = any_speck(&mut random, n, &raster);
+            let touched_up = quadtree(n, &repainted(n, &raster, speck));
             for (mut out, blocks) in [
                 (blocks_from_raster(&mut random, n, &raster, [more; 3]), &blocks),
                 (overlay(&mut random, n, &blocks, &second, [more; 3]), &over),
+                (touch_up(&mut random, n, &blocks, speck, [more; 3]), &touched_up),
             ] {
                 damaged(&mut random, &mut cases, &mut out, blocks, |o| o.difference(blocks));
                 out.written.count += 1;
@@ -158,10 +170,16 @@ fn damage_is_seen() {
                 assert!(refused.difference_from_refusal(9).is_some(), "another number");
             }
 
-            let mut refused = overlay(&mut random, n, &blocks, &second, [short; 3]);
-            let none = Blocks::default();
-            damaged(&mut random, &mut cases, &mut refused, &none, |r| r.difference_from_refusal(8));
-            assert!(refused.difference_from_refusal(7).is_some(), "another number");
+            let outside = Speck { y: 1 << n, ..speck };
+            for (mut refused, number) in [
+                (overlay(&mut random, n, &blocks, &second, [short; 3]), 8),
+                (touch_up(&mut random, n, &blocks, speck, [short; 3]), 8),
+                (touch_up(&mut random, n, &blocks, outside, [more; 3]), 21),
+            ] {
+                let none = Blocks::default();
+                damaged(&mut random, &mut cases, &mut refused, &none, |r| r.difference_from_refusal(number));
+                assert!(refused.difference_from_refusal(7).is_some(), "another number");
+            }
         }
     }
     cases.end();

@@ -1,8 +1,8 @@
-//! Block lists: the check, raster to blocks, blocks to raster, one list over another.
+//! Block lists: the check, raster to blocks, blocks to raster, one list over another, one pixel touched up.
 
 use super::location::place;
 use crate::nettlestair::Written;
-use crate::sides::Blocks;
+use crate::sides::{Blocks, NewLists, Speck};
 
 /// Causes 1 to 7, in one pass over the blocks.
 pub fn check(n: u32, blocks: Blocks) -> u32 {
@@ -127,6 +127,21 @@ pub fn overlay(
         *colour = other.max(*colour);
     }
     blocks_from_raster(n, raster, codes, levels, colours)
+}
+
+/// The merged list of an image with one pixel changed: the list painted, the pixel set, and merged.
+pub fn touch_up(n: u32, blocks: Blocks, speck: Speck, (codes, levels, colours): NewLists) -> Written {
+    let mut raster = [0; 65_536];
+    let painted = raster_from_blocks(n, blocks, &mut raster);
+    if painted.number != 0 {
+        return painted;
+    }
+    let Speck { x, y, colour } = speck;
+    if x >= 1 << n || y >= 1 << n {
+        return Written::refused(21);
+    }
+    raster[(y << n | x) as usize] = colour;
+    blocks_from_raster(n, &raster[..1 << (2 * n)], codes, levels, colours)
 }
 
 /// Stores `value` in the square of side 2^level at the place `at`, in rows of 2^n.

@@ -10,7 +10,7 @@ pub mod outlines;
 pub mod pgm;
 pub mod regions;
 
-pub use blocks::{blocks_from_raster, check, overlay, raster_from_blocks};
+pub use blocks::{blocks_from_raster, check, overlay, raster_from_blocks, touch_up};
 pub use location::{code, spread_code};
 pub use orders::{from_block_order, to_block_order};
 pub use outlines::trace;

@@ -13,6 +13,15 @@ pub struct Blocks {
 }
 
 impl Blocks {
+    /// The list of these blocks: code, level, colour.
+    pub fn of(rows: &[(u32, u8, u16)]) -> Blocks {
+        let mut blocks = Blocks::default();
+        for &(code, level, colour) in rows {
+            blocks.push(code, level, colour);
+        }
+        blocks
+    }
+
     pub fn push(&mut self, code: u32, level: u8, colour: u16) {
         self.codes.push(code);
         self.levels.push(level);

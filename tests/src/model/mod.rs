@@ -9,3 +9,4 @@ pub mod overlay;
 pub mod paths;
 pub mod pgm;
 pub mod regions;
+pub mod touching_up;
