@@ -41,40 +41,40 @@ pub record At (n : ℕ) (a : BlockList) (c i : ℕ) : Type 0 where
   pub past : length (a .codes) ≤ i → c ≡ 4 ^ n
 
 module _ (n : ℕ) (a : BlockList) (accepted : numberOf n a ≡ 0) where
-  p : Passes n (a .codes) (a .levels) (a .colours)
-  p = number-zero n (a .codes) (a .levels) (a .colours) accepted
+  passes : Passes n (a .codes) (a .levels) (a .colours)
+  passes = number-zero n (a .codes) (a .levels) (a .colours) accepted
 
   -- The pixels of the blocks up to the place i, with the one there.
   end-is : (i : ℕ) → i < length (a .codes) → pixels (take (suc i) (blocksOf a)) ≡ endAt a i
   end-is i h =
-      omega (arith, pixels-with n (blocksOf a) (p .covering) i (inside p i h), first-is p i h, ap (λ (l : ℕ). 4 ^ l) (level-is p i h))
+      omega (arith, pixels-with n (blocksOf a) (passes .covering) i (inside passes i h), first-is passes i h, ap (λ (l : ℕ). 4 ^ l) (level-is passes i h))
 
   next-code : (i : ℕ) → i < length (a .codes) → i + 1 < length (a .codes) → getD (a .codes) (i + 1) 0 ≡ endAt a i
   next-code i h g =
       let e : i + 1 ≡ suc i = omega arith in
-      sym (first-is p (i + 1) g) ∙ ap (λ (k : ℕ). pixels (take k (blocksOf a))) e ∙ end-is i h
+      sym (first-is passes (i + 1) g) ∙ ap (λ (k : ℕ). pixels (take k (blocksOf a))) e ∙ end-is i h
 
   pub block-there : (i : ℕ) → i < length (a .codes) → BlockThere n a i
   block-there i h =
-      let fits : endAt a i ≤ 4 ^ n = omega (arith, end-is i h, first-pixels-in-image n (blocksOf a) (p .covering) (suc i)) in
+      let fits : endAt a i ≤ 4 ^ n = omega (arith, end-is i h, first-pixels-in-image n (blocksOf a) (passes .covering) (suc i)) in
       record {
-        in-levels = omega (arith, p .equal-levels);
-        in-colours = omega (arith, p .equal-levels, p .equal-colours);
-        small = omega (arith, fits, pow4-pos (getD (a .levels) i 0), pow4-mono (p .small));
-        low = omega (arith, level-at-most p i h, p .small);
+        in-levels = omega (arith, passes .equal-levels);
+        in-colours = omega (arith, passes .equal-levels, passes .equal-colours);
+        small = omega (arith, fits, pow4-pos (getD (a .levels) i 0), pow4-mono (passes .small));
+        low = omega (arith, level-at-most passes i h, passes .small);
         in-image = fits;
         coloured = λ c low high.
-            held-colour (blocksOf a) i c (record { place = inside p i h; from = omega (arith, first-is p i h); before = omega (arith, end-is i h) })
-            ∙ ap (λ (b : Block). b .colour) (block-at (a .codes) (a .levels) (a .colours) (p .equal-levels) (p .equal-colours) i h);
+            held-colour (blocksOf a) i c (record { place = inside passes i h; from = omega (arith, first-is passes i h); before = omega (arith, end-is i h) })
+            ∙ ap (λ (b : Block). b .colour) (block-at (a .codes) (a .levels) (a .colours) (passes .equal-levels) (passes .equal-colours) i h);
       }
 
-  -- Before the first pixel, and one step on: to a code d no farther than the end of the block.
+  -- Before the first pixel, and one step on, to a code d no farther than the end of the block.
   pub at-start : At n a 0 0
   unfolding pixels
   at-start = record {
-    from = λ h. omega (arith, first-is p 0 h);
+    from = λ h. omega (arith, first-is passes 0 h);
     within = λ h. omega (arith, pow4-pos (getD (a .levels) 0 0));
-    past = λ h. omega (arith, all-pixels n (blocksOf a) (p .covering), ap pixels (take-all 0 (blocksOf a) (omega (arith, block-count p))));
+    past = λ h. omega (arith, all-pixels n (blocksOf a) (passes .covering), ap pixels (take-all 0 (blocksOf a) (omega (arith, block-count passes))));
   }
 
   pub at-onward : {c d i i′ ending : ℕ} → At n a c i → i < length (a .codes) → ending ≡ endAt a i → c ≤ d → d ≤ ending → i′ ≡ nextPlace i ending d → At n a d i′
@@ -87,14 +87,14 @@ module _ (n : ℕ) (a : BlockList) (accepted : numberOf n a ≡ 0) where
       goes f = record {
         from = λ g. omega (arith, next-code i h g);
         within = λ g. omega (arith, next-code i h g, pow4-pos (getD (a .levels) (i + 1) 0));
-        past = λ g. omega (arith, end-is i h, all-pixels n (blocksOf a) (p .covering), ap pixels (take-all (suc i) (blocksOf a) (omega (arith, block-count p))));
+        past = λ g. omega (arith, end-is i h, all-pixels n (blocksOf a) (passes .covering), ap pixels (take-all (suc i) (blocksOf a) (omega (arith, block-count passes))));
       }
 
       pick : Dec (d < ending) → At n a d (nextPlace i ending d)
       pick (yes l) = subst (At n a d) (ap (λ (t : Bool). cond t i (i + 1)) (sym (lt-ltb d ending l))) (stays l)
       pick (no l) = subst (At n a d) (ap (λ (t : Bool). cond t i (i + 1)) (sym (le-ltb d ending (omega arith)))) (goes (omega arith))
 
-  -- Where one cursor stands before its list's end, so does another at the same code.
+  -- A cursor at a pixel of the image is not past the last block.
   pub not-past : (c i : ℕ) → At n a c i → c < 4 ^ n → i < length (a .codes)
   not-past c i at l = pick (decLt i (length (a .codes)))
     where

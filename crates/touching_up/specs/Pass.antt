@@ -1,14 +1,10 @@
--- The pass over the list: its pieces, what it needs, and what holds at the head of its loop.
+-- The pass over the list: what it needs, and what holds at the head of its loop.
 use mathlib.Core.Path.{_≡_, sym, ap, _∙_, subst}
-use mathlib.Core.Logic.{_≢_}
-use mathlib.Core.Bool.{Bool, cond}
-use Prim.Native.Nat.{ℕ, _+_, _-_, _^_, _≤_, _<_, min}
-use native.Mathlib.Decide.{ℕ-discrete, decLt}
+use Prim.Native.Nat.{ℕ, _+_, _-_, _^_, _≤_, _<_}
+use native.Mathlib.Decide.{ℕ-discrete}
 use native.Mathlib.Omega.{arith}
 use lib.ListN.{length, getD, set}
 use lib.Seq.{getD-set-same, getD-set-other}
-use lib.Dec.{eqb, ltb}
-use borrow.Author.Tests.{eq-eqb, ne-eqb, lt-ltb, le-ltb}
 use Rattle.quadtree.specs.Accepted.{number-zero}
 use Rattle.quadtree.specs.BlockLists.{BlockList, imageOf, numberOf, accepted-covers, length-image, RoomFor}
 use Rattle.runs.specs.Runs.{piece}
@@ -17,14 +13,7 @@ use Rattle.appending.specs.declared.Pending.{Pending}
 use Rattle.appending.specs.Appended.{pendingAt, RunWritten, Appendable, Appended}
 use Rattle.appending.specs.Progress.{appended-end, Progress, AllWritten, progress-none, progress-more, progress-done}
 use Rattle.touching_up.specs.Promise.{repainted}
-
--- Where the piece ends that begins at the code `from`, in a block that ends at `ending`: the pixel c is a piece of its own.
-unfoldable pub pieceEnd : ℕ → ℕ → ℕ → ℕ
-pieceEnd from c ending = cond (ltb from c) (min c ending) (cond (ltb c from) ending (from + 1))
-
--- Its colour: that of its block, or that of the pixel.
-unfoldable pub pieceColour : ℕ → ℕ → ℕ → ℕ → ℕ
-pieceColour from c old v = cond (eqb from c) v old
+use Rattle.touching_up.specs.Pieces.{pieceEnd, pieceColour, colour-of-pixel, colour-of-block, Parted, parted}
 
 -- An accepted list, a pixel of its image, and three lists with room for what is written.
 pub record Repaintable (n : ℕ) (a : BlockList) (c : ℕ) (lent : BlockList) : Type 0 where
@@ -36,53 +25,6 @@ pub record Repaintable (n : ℕ) (a : BlockList) (c : ℕ) (lent : BlockList) : 
 pub record Passing (n : ℕ) (a : BlockList) (c v : ℕ) (before now : BlockList) (p : Pending) (i : ℕ) : Type 0 where
   pub at : At n a (p .to) i
   pub progress : Progress n (repainted (imageOf a) c v) before now p
-
--- ---- the cases of a piece
-
-pub end-before-pixel : (from c ending : ℕ) → from < c → pieceEnd from c ending ≡ min c ending
-unfolding pieceEnd
-end-before-pixel from c ending l = ap (λ (t : Bool). cond t (min c ending) (cond (ltb c from) ending (from + 1))) (lt-ltb from c l)
-
-pub end-after-pixel : (from c ending : ℕ) → c < from → pieceEnd from c ending ≡ ending
-unfolding pieceEnd
-end-after-pixel from c ending l =
-    ap (λ (t : Bool). cond t (min c ending) (cond (ltb c from) ending (from + 1))) (le-ltb from c (omega arith))
-    ∙ ap (λ (t : Bool). cond t ending (from + 1)) (lt-ltb c from l)
-
-pub end-of-pixel : (from c ending : ℕ) → from ≡ c → pieceEnd from c ending ≡ from + 1
-unfolding pieceEnd
-end-of-pixel from c ending e =
-    ap (λ (t : Bool). cond t (min c ending) (cond (ltb c from) ending (from + 1))) (le-ltb from c (omega arith))
-    ∙ ap (λ (t : Bool). cond t ending (from + 1)) (le-ltb c from (omega arith))
-
-pub colour-of-pixel : (from c old v : ℕ) → from ≡ c → pieceColour from c old v ≡ v
-unfolding pieceColour
-colour-of-pixel from c old v e = ap (λ (t : Bool). cond t v old) (eq-eqb from c e)
-
-pub colour-of-block : (from c old v : ℕ) → from ≢ c → pieceColour from c old v ≡ old
-unfolding pieceColour
-colour-of-block from c old v d = ap (λ (t : Bool). cond t v old) (ne-eqb from c d)
-
--- The piece has pixels, and does not pass the block's end. The pixel c is in it alone or not at all.
-record Parted (from c ending done : ℕ) : Type 0 where
-  some : from < done
-  fits : done ≤ ending
-  alone : from ≡ c → done ≡ from + 1
-  without : from ≢ c → (k : ℕ) → from ≤ k → k < done → k ≢ c
-
-parted : (from c ending : ℕ) → from < ending → Parted from c ending (pieceEnd from c ending)
-parted from c ending h = pick (ℕ-discrete from c) (decLt from c)
-  where
-    pick : Dec (from ≡ c) → Dec (from < c) → Parted from c ending (pieceEnd from c ending)
-    pick (yes e) l =
-        let done = end-of-pixel from c ending e in
-        record { some = omega (arith, done); fits = omega (arith, done); alone = λ f. done; without = λ d k low high. absurd (d e) }
-    pick (no d) (yes l) =
-        let done = end-before-pixel from c ending l in
-        record { some = omega (arith, done); fits = omega (arith, done); alone = λ f. absurd (d f); without = λ f k low high g. omega (arith, done) }
-    pick (no d) (no l) =
-        let done = end-after-pixel from c ending (omega arith) in
-        record { some = omega (arith, done); fits = omega (arith, done); alone = λ f. absurd (d f); without = λ f k low high g. omega arith }
 
 module _ {n : ℕ} {a : BlockList} {c v : ℕ} {before : BlockList} (o : Repaintable n a c before) where
   pub passing-none : Passing n a c v before before (pendingAt 0 0 0 0) 0

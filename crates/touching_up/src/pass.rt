@@ -11,7 +11,8 @@ ghost use Prim.Native.Nat.{_<_};
 ghost use Rattle.quadtree.specs.BlockLists.{listOf, imageOf};
 ghost use Rattle.appending.specs.Progress.{AllWritten};
 ghost use Rattle.touching_up.specs.Promise.{repainted};
-ghost use Rattle.touching_up.specs.Pass.{pieceEnd, pieceColour, Repaintable};
+ghost use Rattle.touching_up.specs.Pieces.{pieceEnd, pieceColour};
+ghost use Rattle.touching_up.specs.Pass.{Repaintable};
 
 // Where the piece ends that begins at the code `from`, in a block that ends at `ending`.
 fn piece_end(from: usize, pixel: usize, ending: usize) -> usize

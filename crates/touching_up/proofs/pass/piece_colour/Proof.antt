@@ -1,6 +1,6 @@
 -- Its two cases are those of the test.
 use mathlib.Core.Path.{sym}
-use Rattle.touching_up.specs.Pass.{colour-of-pixel, colour-of-block}
+use Rattle.touching_up.specs.Pieces.{colour-of-pixel, colour-of-block}
 use Rattle.touching_up.proofs.pass.piece_colour.Statement.{statement}
 use Rattle.touching_up.proofs.pass.piece_colour.Tie as tie
 

@@ -2,7 +2,7 @@
 use mathlib.Core.Path.{sym, _∙_}
 use native.Mathlib.Omega.{arith}
 use borrow.Author.Needs.{needs}
-use Rattle.touching_up.specs.Pass.{end-before-pixel, end-after-pixel, end-of-pixel}
+use Rattle.touching_up.specs.Pieces.{end-before-pixel, end-after-pixel, end-of-pixel}
 use Rattle.touching_up.proofs.pass.piece_end.Statement.{statement}
 use Rattle.touching_up.proofs.pass.piece_end.Tie as tie
 
