@@ -201,10 +201,10 @@ impl Specks {
     /// How many pixels are touched up.
     pub const COUNT: usize = 16;
 
-    /// The pixels stand in four rows of four.
+    /// The pixels stand in four rows of four, at even and odd places.
     pub fn new(kind: &Kind, n: u32) -> Specks {
         let side = 1 << n;
-        let along = |k: usize| side / 8 + k * side / 4;
+        let along = |k: usize| (2 * k + 1) * side / 9;
         let places = (0..Specks::COUNT).map(|k| along(k / 4) * side + along(k % 4)).collect();
         Specks { n, picture: Input::new(kind, n, 0), places }
     }
@@ -219,12 +219,12 @@ impl Specks {
         let n = self.n;
         let in_colour = |colour: u16| Speck { x: place as u32 % (1 << n), y: place as u32 >> n, colour };
         let (codes, levels, colours) = put_in;
-        let first = (side.touch_up)(n, self.picture.blocks(), in_colour(NEW_COLOUR), (codes, levels, colours));
+        let first = (side.touch_up)(n, self.picture.blocks(), in_colour(NEW_COLOUR), codes, levels, colours);
         let count = first.count as usize;
         let with_speck = Blocks { codes: &codes[..count], levels: &levels[..count], colours: &colours[..count] };
         let (codes, levels, colours) = taken_out;
         let own = in_colour(self.picture.raster[place]);
-        [first, (side.touch_up)(n, with_speck, own, (codes, levels, colours))]
+        [first, (side.touch_up)(n, with_speck, own, codes, levels, colours)]
     }
 
     /// The blocks of the picture, and the most that it has with one speck.

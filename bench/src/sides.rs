@@ -27,9 +27,6 @@ pub struct Speck {
     pub colour: u16,
 }
 
-/// The lists that touching up is lent: codes, levels, colours.
-pub type NewLists<'a> = (&'a mut [u32], &'a mut [u8], &'a mut [u16]);
-
 /// What a tracing is lent besides the block list.
 pub struct Lent<'a> {
     pub labels: &'a mut [u32],
@@ -55,7 +52,7 @@ pub struct Side {
     pub to_block_order: Way,
     pub from_block_order: Way,
     pub overlay: fn(u32, Blocks, Blocks, &mut [u32], &mut [u8], &mut [u16]) -> Written,
-    pub touch_up: fn(u32, Blocks, Speck, NewLists) -> Written,
+    pub touch_up: fn(u32, Blocks, Speck, &mut [u32], &mut [u8], &mut [u16]) -> Written,
     pub read_pgm: fn(&[u8], &mut [u16]) -> Picture,
 }
 
@@ -77,7 +74,7 @@ pub const LIBRARY: Side = Side {
     overlay: |n, a, b, codes, levels, colours| {
         nettlestair::overlay(n, a.codes, a.levels, a.colours, b.codes, b.levels, b.colours, codes, levels, colours)
     },
-    touch_up: |n, blocks, Speck { x, y, colour }, (new_codes, new_levels, new_colours)| {
+    touch_up: |n, blocks, Speck { x, y, colour }, new_codes, new_levels, new_colours| {
         let Blocks { codes, levels, colours } = blocks;
         nettlestair::touch_up(n, codes, levels, colours, x, y, colour, new_codes, new_levels, new_colours)
     },

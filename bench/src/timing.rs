@@ -13,7 +13,7 @@ impl Times {
         self.library / self.plain
     }
 
-    /// The times of one picture where a call has `count` of them.
+    /// The times of one where a job has `count` of them, pictures or calls.
     pub fn of_one_in(self, count: usize) -> Times {
         Times { library: self.library / count as f64, plain: self.plain / count as f64 }
     }

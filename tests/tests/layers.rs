@@ -130,7 +130,7 @@ fn over_itself_and_over_the_single_block() {
     let mut cases = Cases::of("a scan over itself and over the single block");
     let mut random = Random::of("a scan over itself and over the single block");
     for n in 0..=8 {
-        let single = Blocks { codes: vec![0], levels: vec![n as u8], colours: vec![0] };
+        let single = Blocks::of(&[(0, n as u8, 0)]);
         for raster in rasters::with_structured(&mut random, n) {
             let scan = quadtree(n, &raster);
             for (first, second) in [(&scan, &scan), (&scan, &single), (&single, &scan)] {

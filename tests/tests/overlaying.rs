@@ -148,11 +148,7 @@ fn colours_of_two_bytes() {
     for (a, b) in [(255, 256), (65_280, 65_535), (0, 1), (0, 256), (1, 257), (513, 768), (32_767, 32_768)] {
         for [first, second] in [[[a; 4], [b; 4]], [[b; 4], [a; 4]], [[a, b, b, a], [b, a, a, b]]] {
             let blocks = laid_over(&mut random, 1, &first, &second, [0; 3]);
-            assert_eq!(
-                blocks,
-                Blocks { codes: vec![0], levels: vec![1], colours: vec![b] },
-                "{first:?} over {second:?}"
-            );
+            assert_eq!(blocks, Blocks::of(&[(0, 1, b)]), "{first:?} over {second:?}");
             cases.ran();
         }
         let blocks = laid_over(&mut random, 1, &[a, a, b, b], &[a, b, a, b], [0; 3]);

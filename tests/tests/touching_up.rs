@@ -53,13 +53,15 @@ impl Image {
         new
     }
 
-    /// The number of regions by the numbering and that of the unit edges by the tracing. Of these, the raster has as many by its colours.
+    /// The number of regions by the numbering, which is the tracing's too, and that of the unit edges by the tracing; the raster's colours
+    /// give as many edges.
     fn counts(&self, random: &mut Random) -> [i64; 2] {
         let Image { n, ref raster, ref blocks } = *self;
         let lengths = needs(n, blocks.len());
         let numbered = number(random, n, blocks, [lengths[0], lengths[1]]).answer;
         let mut traced = trace(random, n, blocks, lengths);
         assert_eq!([numbered.number, traced.answer.number], [0, 0], "n = {n}, {blocks}");
+        assert_eq!(numbered.regions, traced.answer.regions, "the regions of n = {n}, {blocks}");
         let edges = walked(&mut traced);
         assert_eq!(edges, unit_edges(n, raster), "the unit edges of n = {n}, {blocks}");
         [i64::from(numbered.regions), edges as i64]
@@ -170,10 +172,15 @@ fn a_third_colour() {
     cases.end();
 }
 
-/// A test over images of every kind, from n on with so many rounds for each side.
-fn images_of_every_kind(name: &'static str, n: u32, rounds: &[usize], test: impl Fn(&mut Random, &mut Cases, &Image)) {
+/// A test over images of every kind, from `first` on with so many rounds for each n.
+fn images_of_every_kind(
+    name: &'static str,
+    first: u32,
+    rounds: &[usize],
+    test: impl Fn(&mut Random, &mut Cases, &Image),
+) {
     let (mut cases, mut random) = (Cases::of(name), Random::of(name));
-    for (n, &rounds) in (n..).zip(rounds) {
+    for (n, &rounds) in (first..).zip(rounds) {
         for raster in (0..rounds).flat_map(|_| rasters::with_structured(&mut random, n)).collect::<Vec<_>>() {
             test(&mut random, &mut cases, &Image::of(n, raster));
         }

@@ -2,7 +2,7 @@
 
 use super::location::place;
 use crate::nettlestair::Written;
-use crate::sides::{Blocks, NewLists, Speck};
+use crate::sides::{Blocks, Speck};
 
 /// Causes 1 to 7, in one pass over the blocks.
 pub fn check(n: u32, blocks: Blocks) -> u32 {
@@ -130,7 +130,14 @@ pub fn overlay(
 }
 
 /// The merged list of an image with one pixel changed: the list painted, the pixel set, and merged.
-pub fn touch_up(n: u32, blocks: Blocks, speck: Speck, (codes, levels, colours): NewLists) -> Written {
+pub fn touch_up(
+    n: u32,
+    blocks: Blocks,
+    speck: Speck,
+    codes: &mut [u32],
+    levels: &mut [u8],
+    colours: &mut [u16],
+) -> Written {
     let mut raster = [0; 65_536];
     let painted = raster_from_blocks(n, blocks, &mut raster);
     if painted.number != 0 {

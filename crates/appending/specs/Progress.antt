@@ -12,7 +12,7 @@ use Rattle.quadtree.specs.Merged.{merged-is-quadtree}
 use Rattle.quadtree.specs.BlockLists.{BlockList, RoomFor, SameLengths, same-again, room-again, room-for-fewer}
 use Rattle.runs.specs.Squares.{length-squares}
 use Rattle.runs.specs.Runs.{piece, squaresOf, ended, next, next-end, next-room}
-use Rattle.runs.specs.MergedRuns.{RunOf, PieceOf, next-of, merged-next, merged-last}
+use Rattle.runs.specs.MergedRuns.{RunColoured, PieceColoured, next-coloured, merged-next, merged-last}
 use Rattle.runs.specs.Stored.{stored, stored-none, stored-more, length-stored}
 use Rattle.appending.specs.declared.Pending.{Pending}
 use Rattle.appending.specs.Appended.{runOf, pendingAt, Writable, RunWritten, same-lengths, Appendable, Appended}
@@ -25,7 +25,7 @@ appended-end {n} {size} {colour} {p} w = ap (λ (r : Pending). r .to) (w .answer
 pub record Progress (n : ℕ) (px : List ℕ) (before now : BlockList) (p : Pending) : Type 0 where
   pub writable : Writable n p now
   pub same : SameLengths now before
-  pub of-image : RunOf px (runOf p)
+  pub coloured : RunColoured px (runOf p)
   pub done : List Block
   pub counted : p .count ≡ length done
   pub lists : now ≡ stored 0 done before
@@ -43,7 +43,7 @@ pub progress-none : {n : ℕ} {px : List ℕ} {before : BlockList} → n ≤ 8 �
 progress-none {n} {px} {before} small room = record {
   writable = record { small = small; ordered = omega arith; inside = omega arith; few = omega arith; room = room };
   same = record { for-codes = refl; for-levels = refl; for-colours = refl };
-  of-image = λ i low high. absurd (omega arith);
+  coloured = λ i low high. absurd (omega arith);
   done = [];
   counted = refl;
   lists = sym (stored-none 0 before);
@@ -52,7 +52,7 @@ progress-none {n} {px} {before} small room = record {
 
 module _ {n : ℕ} {px : List ℕ} {before now : BlockList} {p : Pending} (i : Progress n px before now p) where
   -- One piece more, of the image's colours.
-  pub progress-more : {size colour : ℕ} {after : BlockList} {q : Pending} → Appendable n p size now → PieceOf px (runOf p) (piece size colour)
+  pub progress-more : {size colour : ℕ} {after : BlockList} {q : Pending} → Appendable n p size now → PieceColoured px (runOf p) (piece size colour)
       → Appended n p (piece size colour) now after q → Progress n px before after q
   progress-more {size} {colour} {after} {q} f here w =
       let a = piece size colour in
@@ -69,13 +69,13 @@ module _ {n : ℕ} {px : List ℕ} {before now : BlockList} {p : Pending} (i : P
           room = room-again same (i .writable .room);
         };
         same = same-again same (i .same);
-        of-image = next-of n px (runOf p) a (i .of-image) here;
+        coloured = next-coloured n px (runOf p) a (i .coloured) here;
         done = i .done ++ ended n (runOf p) a;
         counted = omega (arith, length-append (i .done) (ended n (runOf p) a), i .counted);
         lists = w .lists ∙ stored-more (i .done) (ended n (runOf p) a) before now (p .count) (i .counted) (i .lists);
         sum =
             append-assoc (i .done) (ended n (runOf p) a) (mergedFrom n px (next (runOf p) a .from))
-            ∙ ap (λ (l : List Block). i .done ++ l) (merged-next n px (runOf p) a (i .of-image) here (i .writable .ordered) (f .some) (f .inside))
+            ∙ ap (λ (l : List Block). i .done ++ l) (merged-next n px (runOf p) a (i .coloured) here (i .writable .ordered) (f .some) (f .inside))
             ∙ i .sum;
       })
 
@@ -83,7 +83,7 @@ module _ {n : ℕ} {px : List ℕ} {before now : BlockList} {p : Pending} (i : P
   pub progress-done : {after : BlockList} {count : ℕ} → p .to ≡ 4 ^ n → RunWritten n p now after count → AllWritten n px before after count
   progress-done {after} {count} end w =
       let all : i .done ++ squaresOf n (runOf p) ≡ quadtree n px =
-      ap (λ (l : List Block). i .done ++ l) (merged-last n px (runOf p) (i .of-image) (i .writable .ordered) end) ∙ i .sum in
+      ap (λ (l : List Block). i .done ++ l) (merged-last n px (runOf p) (i .coloured) (i .writable .ordered) end) ∙ i .sum in
       record {
         answer = w .answer ∙ ap (λ (k : ℕ). k + length (squaresOf n (runOf p))) (i .counted) ∙ sym (length-append (i .done) (squaresOf n (runOf p))) ∙ ap length all;
         lists = w .lists ∙ stored-more (i .done) (squaresOf n (runOf p)) before now (p .count) (i .counted) (i .lists) ∙ ap (λ (bs : List Block). stored 0 bs before) all;

@@ -158,6 +158,26 @@ pub record AtExit (n : ℕ) (cs ls ks : List ℕ) (before after : Lent) (r : Tra
   pub corners-kept : (i : ℕ) → r .corners ≤ i → getD (after .cornerList) i 0 ≡ getD (before .cornerList) i 0
   pub areas-kept : (i : ℕ) → r .cycles ≤ i → getD (after .areaList) i (pos 0) ≡ getD (before .areaList) i (pos 0)
 
+-- Lists lent to a tracing of so many blocks, "of at least the stated lengths" (demand 3).
+pub record LongEnough (n count : ℕ) (lent : Lent) : Type 0 where
+  pub for-labels : count ≤ length (lent .labelList)
+  pub for-work : 2 * 4 ^ n ≤ length (lent .workList)
+  pub for-owners : 4 ^ n ≤ length (lent .ownerList)
+  pub for-ends : 4 ^ n ≤ length (lent .endList)
+  pub for-corners : 4 * 4 ^ n ≤ length (lent .cornerList)
+  pub for-areas : 4 ^ n ≤ length (lent .areaList)
+
+pub needs-of : {n count : ℕ} {cs ls ks : List ℕ} {lent : Lent} → number n cs ls ks ≡ 0 → length cs ≤ count → LongEnough n count lent → Needs n cs ls ks lent
+needs-of accepted few long = record {
+  accepted = accepted;
+  for-labels = omega (arith, few, long .for-labels);
+  for-work = long .for-work;
+  for-owners = long .for-owners;
+  for-ends = long .for-ends;
+  for-corners = long .for-corners;
+  for-areas = long .for-areas;
+}
+
 module _ {n : ℕ} {cs ls ks : List ℕ} {before after : Lent} {r : Traced} (p : Tracing n cs ls ks before after r) where
   number-answered : r .number ≡ tracingNumber n cs ls ks before
   number-answered = ap (λ (a : Traced). a .number) (p .answer)

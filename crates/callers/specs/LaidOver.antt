@@ -25,7 +25,7 @@ use Rattle.regions.specs.Promise.{Numbering}
 use Rattle.regions.specs.Callers.{labelOfPixel, not-refused as numbering-not-refused, labels-by-least-codes}
 use Rattle.tracing.specs.declared.Traced.{Traced}
 use Rattle.tracing.specs.Tracing.{Lent, outlinesOf, Tracing}
-use Rattle.callers.specs.Demand3.{heldAt, AtExit, not-refused, accepted-at-exit}
+use Rattle.callers.specs.Demand3.{heldAt, AtExit, LongEnough, needs-of, not-refused, accepted-at-exit}
 
 -- The colour at the place i of the raster of an accepted list.
 pixel-of-raster : {n : ℕ} {a : BlockList} {old raster : List ℕ} {s : Written} → numberOf n a ≡ 0 → 4 ^ n ≤ length old
@@ -73,25 +73,16 @@ pub record AsAnyOther (n : ℕ) (px : List ℕ) (result : BlockList) (labels₁ 
 pub as-any-other : {n : ℕ} {a b before after : BlockList} {r : Written} → Overlay n a b before after r → r .number ≡ 0
     → {labels₀ work₀ labels₁ work₁ : List ℕ} {s : Numbered} → r .count ≤ length labels₀ → 2 * 4 ^ n ≤ length work₀
     → Numbering n (resultOf after r .codes) (resultOf after r .levels) (resultOf after r .colours) labels₀ work₀ labels₁ work₁ s
-    → {lent left : Lent} {t : Traced} → r .count ≤ length (lent .labelList) → 2 * 4 ^ n ≤ length (lent .workList) → 4 ^ n ≤ length (lent .ownerList)
-    → 4 ^ n ≤ length (lent .endList) → 4 * 4 ^ n ≤ length (lent .cornerList) → 4 ^ n ≤ length (lent .areaList)
+    → {lent left : Lent} {t : Traced} → LongEnough n (r .count) lent
     → Tracing n (resultOf after r .codes) (resultOf after r .levels) (resultOf after r .colours) lent left t
     → AsAnyOther n (larger (imageOf a) (imageOf b)) (resultOf after r) labels₁ s lent left t
 unfolding outlinesOf
-as-any-other {n} {a} {b} {before} {after} {r} p ok {labels₀} {work₀} {labels₁} {work₁} {s} for-labels for-work q {lent} {left} {t} labels work owners ends corners areas u =
+as-any-other {n} {a} {b} {before} {after} {r} p ok {labels₀} {work₀} {labels₁} {work₁} {s} for-labels for-work q {lent} {left} {t} long u =
     let list = resultOf after r in
     let accepted = result-accepted p ok in
     let few : length (list .codes) ≤ r .count = omega (arith, length-take (r .count) (after .codes)) in
     let numbered : s .number ≡ 0 = numbering-not-refused q accepted (omega arith) for-work in
-    let traced : t .number ≡ 0 = not-refused u (record {
-      accepted = accepted;
-      for-labels = omega arith;
-      for-work = work;
-      for-owners = owners;
-      for-ends = ends;
-      for-corners = corners;
-      for-areas = areas;
-    }) in
+    let traced : t .number ≡ 0 = not-refused u (needs-of accepted few long) in
     let exit = accepted-at-exit u traced in
     record {
       image = result-paints-larger p ok;

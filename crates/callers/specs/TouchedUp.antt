@@ -1,20 +1,18 @@
 -- "Touching up one pixel" (document 02, request j), where a caller stands: the raster of the result, its number of regions and its number of
 -- unit edges, against those of the first list.
-use mathlib.Core.Path.{_≡_, sym, ap, ap₂, _∙_, subst}
+use mathlib.Core.Path.{_≡_, sym, ap, _∙_, subst}
 use mathlib.Core.Logic.{_≢_}
 use mathlib.Core.List.{List}
 use Prim.Native.Nat.{ℕ, _+_, _*_, _/_, _%_, _^_, _≤_, _<_}
-use native.Mathlib.Nat.{div-add-mod'}
 use native.Mathlib.Decide.{ℕ-discrete}
 use native.Mathlib.Omega.{arith}
 use lib.ListN.{length, getD, set, take, length-take, length-set}
 use lib.Seq.{ext-getD, getD-set-same, getD-set-other}
-use lib.Arith.{digits-div, digits-mod}
 use Rattle.interleaving.specs.Codes.{code}
-use Rattle.interleaving.specs.Interleaving.{code-below, code-injective}
+use Rattle.interleaving.specs.Interleaving.{code-below}
 use Rattle.quadtree.specs.Blocks.{blocks, paint}
-use Rattle.quadtree.specs.Raster.{inRows}
-use Rattle.quadtree.specs.Orders.{column-in, row-in, length-in-rows, in-rows-at}
+use Rattle.quadtree.specs.Raster.{place, inRows}
+use Rattle.quadtree.specs.Orders.{place-of-code, code-of-place, place-of-pixel, length-in-rows, in-rows-at}
 use Rattle.quadtree.specs.BlockLists.{BlockList, imageOf, accepted-covers, length-image}
 use Rattle.answers.specs.declared.Written.{Written}
 use Rattle.runs.specs.BlockWriters.{resultOf}
@@ -25,7 +23,7 @@ use Rattle.painting.specs.Callers.{painted}
 use Rattle.components.specs.Numbers.{numbers, regions}
 use Rattle.grid.specs.Cycles.{cycle}
 use Rattle.grid.specs.Listing.{startCodes}
-use Rattle.one_pixel.specs.Alike.{AlikeBut, alike-but-set}
+use Rattle.one_pixel.specs.Agreeing.{AgreeBut, agree-but-set}
 use Rattle.one_pixel.specs.RegionCounts.{regions-move-by-four-at-most}
 use Rattle.one_pixel.specs.UnitEdges.{unitEdges}
 use Rattle.one_pixel.specs.EdgeCounts.{edges-move-by-eight-at-most}
@@ -35,37 +33,36 @@ use Rattle.regions.specs.declared.Numbered.{Numbered}
 use Rattle.regions.specs.Promise.{Numbering}
 use Rattle.regions.specs.Callers.{regions-at-exit, not-refused as numbering-not-refused}
 use Rattle.tracing.specs.declared.Traced.{Traced}
-use Rattle.tracing.specs.Tracing.{Lent, Tracing, Needs}
-use Rattle.callers.specs.Demand3.{sidesAt, numbersOf, not-refused, small, known, accepted-at-exit}
+use Rattle.tracing.specs.Tracing.{Lent, Tracing}
+use Rattle.callers.specs.Demand3.{sidesAt, numbersOf, LongEnough, needs-of, not-refused, small, known, accepted-at-exit}
 
 -- ---- "the image with that pixel alone changed": the raster
 
 -- Row by row, the pixel (x, y) stands at the place y times 2^n plus x.
 in-rows-set : (n x y v : ℕ) (px : List ℕ) → x < 2 ^ n → y < 2 ^ n → length px ≡ 4 ^ n → inRows n (set px (code n x y) v) ≡ set (inRows n px) (y * 2 ^ n + x) v
 in-rows-set n x y v px a b whole =
-    ext-getD 0 (inRows n new) (set (inRows n px) place v) (length-in-rows n new ∙ sym (length-set (inRows n px) place v ∙ length-in-rows n px))
-    (λ i l. let h : i < 4 ^ n = omega (arith, length-in-rows n new) in in-rows-at n new i h ∙ pick i h (ℕ-discrete i place))
+    ext-getD 0 (inRows n new) (set (inRows n px) here v) (length-in-rows n new ∙ sym (length-set (inRows n px) here v ∙ length-in-rows n px))
+    (λ i l. let h : i < 4 ^ n = omega (arith, length-in-rows n new) in in-rows-at n new i h ∙ pick i h (ℕ-discrete i here))
   where
     new : List ℕ
     new = set px (code n x y) v
 
-    place : ℕ
-    place = y * 2 ^ n + x
+    here : ℕ
+    here = y * 2 ^ n + x
 
-    pick : (i : ℕ) → i < 4 ^ n → Dec (i ≡ place) → getD new (code n (i % 2 ^ n) (i / 2 ^ n)) 0 ≡ getD (set (inRows n px) place v) i 0
+    pick : (i : ℕ) → i < 4 ^ n → Dec (i ≡ here) → getD new (code n (i % 2 ^ n) (i / 2 ^ n)) 0 ≡ getD (set (inRows n px) here v) i 0
     pick i h (yes e) =
-        let c : code n (i % 2 ^ n) (i / 2 ^ n) ≡ code n x y = ap₂ (code n) (ap (λ (k : ℕ). k % 2 ^ n) e ∙ digits-mod y a) (ap (λ (k : ℕ). k / 2 ^ n) e ∙ digits-div y a) in
+        let c : code n (i % 2 ^ n) (i / 2 ^ n) ≡ code n x y =
+        ap (λ (k : ℕ). code n (k % 2 ^ n) (k / 2 ^ n)) (e ∙ sym (place-of-code n x y a b)) ∙ code-of-place n (code n x y) (code-below n x y) in
         ap (λ (k : ℕ). getD new k 0) c
         ∙ getD-set-same px (code n x y) v 0 (omega (arith, whole, code-below n x y))
-        ∙ sym (ap (λ (k : ℕ). getD (set (inRows n px) place v) k 0) e ∙ getD-set-same (inRows n px) place v 0 (omega (arith, length-in-rows n px)))
+        ∙ sym (ap (λ (k : ℕ). getD (set (inRows n px) here v) k 0) e ∙ getD-set-same (inRows n px) here v 0 (omega (arith, length-in-rows n px)))
     pick i h (no f) =
         getD-set-other px (code n x y) (code n (i % 2 ^ n) (i / 2 ^ n)) v 0 other
-        ∙ sym (getD-set-other (inRows n px) place i v 0 f ∙ in-rows-at n px i h)
+        ∙ sym (getD-set-other (inRows n px) here i v 0 f ∙ in-rows-at n px i h)
       where
         other : code n (i % 2 ^ n) (i / 2 ^ n) ≢ code n x y
-        other q =
-            let xy = code-injective n (i % 2 ^ n) (i / 2 ^ n) x y (column-in n i) (row-in n i h) a b q in
-            f (sym (div-add-mod' i (2 ^ n)) ∙ ap₂ (λ (u w : ℕ). u * 2 ^ n + w) (xy .1) (xy .0))
+        other q = f (sym (place-of-pixel n i h) ∙ ap (place n) q ∙ place-of-code n x y a b)
 
 -- The raster made of the result is that made of the first list, with the colour v at the place y times 2^n plus x.
 pub raster-touched-up : {n : ℕ} {a : BlockList} {x y v : ℕ} {before after : BlockList} {r : Written} → TouchUp n a x y v before after r → r .number ≡ 0
@@ -89,18 +86,18 @@ raster-touched-up {n} {a} {x} {y} {v} p ok room₀ room₁ q₀ q₁ =
 -- ---- "The number of regions then moves by at most 4, up or down."
 
 result-alike : {n : ℕ} {a : BlockList} {x y v : ℕ} {before after : BlockList} {r : Written} → TouchUp n a x y v before after r → r .number ≡ 0
-    → AlikeBut (code n x y) (imageOf a) (imageOf (resultOf after r))
+    → AgreeBut (code n x y) (imageOf a) (imageOf (resultOf after r))
 unfolding repainted
-result-alike {n} {a} {x} {y} {v} p ok = subst (AlikeBut (code n x y) (imageOf a)) (sym (result-paints p ok)) (alike-but-set (code n x y) v (imageOf a))
+result-alike {n} {a} {x} {y} {v} p ok = subst (AgreeBut (code n x y) (imageOf a)) (sym (result-paints p ok)) (agree-but-set (code n x y) v (imageOf a))
 
 -- The numbering of the first list, which answers s, and that of the result, which answers t: lent lists of the stated lengths, both answer 0.
-pub numbered-again : {n : ℕ} {a : BlockList} {x y v : ℕ} {before after : BlockList} {r : Written} → TouchUp n a x y v before after r → r .number ≡ 0
+pub numbered-regions-move-by-four-at-most : {n : ℕ} {a : BlockList} {x y v : ℕ} {before after : BlockList} {r : Written} → TouchUp n a x y v before after r → r .number ≡ 0
     → {labels₀ work₀ labels₁ work₁ : List ℕ} {s : Numbered} → length (a .codes) ≤ length labels₀ → 2 * 4 ^ n ≤ length work₀
     → Numbering n (a .codes) (a .levels) (a .colours) labels₀ work₀ labels₁ work₁ s
     → {labels₂ work₂ labels₃ work₃ : List ℕ} {t : Numbered} → r .count ≤ length labels₂ → 2 * 4 ^ n ≤ length work₂
     → Numbering n (resultOf after r .codes) (resultOf after r .levels) (resultOf after r .colours) labels₂ work₂ labels₃ work₃ t
     → (s .number ≡ 0) × (t .number ≡ 0) × (t .regions ≤ s .regions + 4) × (s .regions ≤ t .regions + 4)
-numbered-again {n} {a} {x} {y} {v} {before} {after} {r} p ok {s = s} for-labels for-work q₀ {t = t} for-labels₂ for-work₂ q₁ =
+numbered-regions-move-by-four-at-most {n} {a} {x} {y} {v} {before} {after} {r} p ok {s = s} for-labels for-work q₀ {t = t} for-labels₂ for-work₂ q₁ =
     let result = resultOf after r in
     let first : s .number ≡ 0 = numbering-not-refused q₀ (accepted-only p ok .0) for-labels for-work in
     let second : t .number ≡ 0 =
@@ -126,23 +123,26 @@ sides-are-unit-edges {n} {cs} {ls} {ks} {lent} {left} {r} p ok =
     ∙ listed-sides-are-unit-edges n nums (small p ok) count (known p ok)
     ∙ ap (unitEdges n nums) (sym (exit .region-count))
 
--- What two tracings answered and left, that of the first list (s) and that of the result (t).
+-- What two tracings answered and left, that of the first list (s) and that of the result (t): both answer 0.
 pub record TracedAgain (left₀ left₁ : Lent) (s t : Traced) : Type 0 where
   pub first-answered : s .number ≡ 0
   pub second-answered : t .number ≡ 0
+  -- "The number of regions then moves by at most 4, up or down."
   pub regions-up : t .regions ≤ s .regions + 4
   pub regions-down : s .regions ≤ t .regions + 4
+  -- "The number of directed unit edges over all regions moves by at most 8."
   pub edges-up : sidesListed left₁ t ≤ sidesListed left₀ s + 8
   pub edges-down : sidesListed left₀ s ≤ sidesListed left₁ t + 8
 
-pub traced-again : {n : ℕ} {a : BlockList} {x y v : ℕ} {before after : BlockList} {r : Written} → TouchUp n a x y v before after r → r .number ≡ 0
-    → {lent₀ left₀ : Lent} {s : Traced} → Needs n (a .codes) (a .levels) (a .colours) lent₀ → Tracing n (a .codes) (a .levels) (a .colours) lent₀ left₀ s
-    → {lent₁ left₁ : Lent} {t : Traced} → Needs n (resultOf after r .codes) (resultOf after r .levels) (resultOf after r .colours) lent₁
+-- The tracing of the first list, and that of the result, lent lists of the stated lengths.
+pub traced-edges-move-by-eight-at-most : {n : ℕ} {a : BlockList} {x y v : ℕ} {before after : BlockList} {r : Written} → TouchUp n a x y v before after r → r .number ≡ 0
+    → {lent₀ left₀ : Lent} {s : Traced} → LongEnough n (length (a .codes)) lent₀ → Tracing n (a .codes) (a .levels) (a .colours) lent₀ left₀ s
+    → {lent₁ left₁ : Lent} {t : Traced} → LongEnough n (r .count) lent₁
     → Tracing n (resultOf after r .codes) (resultOf after r .levels) (resultOf after r .colours) lent₁ left₁ t
     → TracedAgain left₀ left₁ s t
-traced-again {n} {a} {x} {y} {v} {before} {after} {r} p ok {s = s} met₀ q₀ {t = t} met₁ q₁ =
-    let first : s .number ≡ 0 = not-refused q₀ met₀ in
-    let second : t .number ≡ 0 = not-refused q₁ met₁ in
+traced-edges-move-by-eight-at-most {n} {a} {x} {y} {v} {before} {after} {r} p ok {s = s} long₀ q₀ {t = t} long₁ q₁ =
+    let first : s .number ≡ 0 = not-refused q₀ (needs-of (accepted-only p ok .0) (omega arith) long₀) in
+    let second : t .number ≡ 0 = not-refused q₁ (needs-of (result-accepted p ok) (omega (arith, length-take (r .count) (after .codes))) long₁) in
     let px : List ℕ = imageOf a in
     let qx : List ℕ = imageOf (resultOf after r) in
     let regions₀ : s .regions ≡ regions n px = accepted-at-exit q₀ first .region-count in

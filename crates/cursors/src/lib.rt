@@ -1,4 +1,4 @@
-// A cursor in a block list: where its block ends, and the place that it goes on to.
+// A cursor in a block list: where its block ends, and the place that it goes on to; the smaller of two numbers.
 ghost use mathlib.Core.Path.{_≡_};
 ghost use Prim.Native.Nat.{_+_, _^_, _≤_, _<_, min};
 ghost use Rattle.cursors.specs.Cursors.{nextPlace};

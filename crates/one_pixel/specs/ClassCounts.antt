@@ -10,7 +10,7 @@ use Rattle.unions.specs.Pairs.{Pair, Linked}
 use Rattle.unions.specs.Representatives.{merge, merge-off, joinAt, rep, rep-le, rep-least, linked-to-rep}
 use Rattle.unions.specs.Counting.{below, below-none, below-yes, below-no}
 use Rattle.winding.specs.Sums.{same, same-yes, same-no, sum, sum-add, sum-le}
-use Rattle.one_pixel.specs.SideSums.{same-follows, sum-once}
+use Rattle.one_pixel.specs.OneOfMany.{same-follows, sum-once}
 
 -- How many numbers below k represent themselves, as a sum.
 below-is-sum : (r : ℕ → ℕ) (k : ℕ) → below r k ≡ sum k (λ i. same (r i) i)

@@ -15,11 +15,12 @@ use Rattle.grid.specs.Map.{regionAt}
 use Rattle.grid.specs.Margins.{Pixel, pixel-at, region-inside}
 use Rattle.grid.specs.Sides.{beyond}
 use Rattle.winding.specs.Sums.{same, same-yes, same-no, sum}
-use Rattle.one_pixel.specs.Alike.{AlikeBut, alike-back}
-use Rattle.one_pixel.specs.SideSums.{overSides, sides-le, sides-add, same-follows, square-once}
+use Rattle.one_pixel.specs.Agreeing.{AgreeBut, agree-back}
+use Rattle.one_pixel.specs.OneOfMany.{same-follows, square-once}
+use Rattle.one_pixel.specs.SideSums.{overSides, sides-le, sides-add}
 use Rattle.one_pixel.specs.UnitEdges.{edgeAt, unitEdges, edges-over-sides}
 
-module _ (n c : ℕ) (px qx : List ℕ) (alike : AlikeBut c px qx) where
+module _ (n c : ℕ) (px qx : List ℕ) (agree : AgreeBut c px qx) where
   -- The maps of both images.
   abbrev before : ℕ → ℕ → ℕ
   before = regionAt n (numbers n px)
@@ -41,7 +42,7 @@ module _ (n c : ℕ) (px qx : List ℕ) (alike : AlikeBut c px qx) where
       → getD (numbers n qx) d 0 ≡ getD (numbers n qx) e 0
   still-one d e b f g one =
       neighbours-of-one-number-exactly-when-alike n qx d e b .1
-      (alike e g ∙ neighbours-of-one-number-exactly-when-alike n px d e b .0 one ∙ sym (alike d f))
+      (agree e g ∙ neighbours-of-one-number-exactly-when-alike n px d e b .0 one ∙ sym (agree d f))
 
   -- The side between the pixel (x, y) and the place (X, Y): if it is an edge now, it was one, or c is at one of both places.
   abbrev Moves : ℕ → ℕ → ℕ → ℕ → Type 0
@@ -120,11 +121,11 @@ module _ (n c : ℕ) (px qx : List ℕ) (alike : AlikeBut c px qx) where
       )
 
 -- "The number of directed unit edges over all regions moves by at most 8" (document 02, request j).
-pub edges-move-by-eight-at-most : (n c : ℕ) (px qx : List ℕ) → AlikeBut c px qx
+pub edges-move-by-eight-at-most : (n c : ℕ) (px qx : List ℕ) → AgreeBut c px qx
     → (unitEdges n (numbers n qx) (regions n qx) ≤ unitEdges n (numbers n px) (regions n px) + 8)
     × (unitEdges n (numbers n px) (regions n px) ≤ unitEdges n (numbers n qx) (regions n qx) + 8)
-edges-move-by-eight-at-most n c px qx alike =
-    (edges-grow-by-eight-at-most n c px qx alike, edges-grow-by-eight-at-most n c qx px (alike-back c px qx alike))
+edges-move-by-eight-at-most n c px qx agree =
+    (edges-grow-by-eight-at-most n c px qx agree, edges-grow-by-eight-at-most n c qx px (agree-back c px qx agree))
 
 -- One pixel in an image of one colour: its four sides become edges of two regions.
 eight-more : (unitEdges 2 (numbers 2 (replicate 16 5)) (regions 2 (replicate 16 5)) ≡ 16)

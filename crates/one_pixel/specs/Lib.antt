@@ -1,6 +1,7 @@
 -- One pixel of another colour. Images that differ in one pixel at most.
-pub mod Alike
--- Sums over the sides of all pixels.
+pub mod Agreeing
+-- Sums of numbers that are 0 but for one; sums over the sides of all pixels.
+pub mod OneOfMany
 pub mod SideSums
 -- The number of regions.
 pub mod ClassCounts

@@ -24,7 +24,8 @@ use Rattle.grid.specs.Listed.{listing-length, listed-start, CycleThrough, find}
 use Rattle.grid.specs.Bounds.{edges-distinct}
 use Rattle.winding.specs.Sums.{same, same-yes, same-no, sum}
 use Rattle.winding.specs.Tallies.{tally, occurrences, occurrences-none, occurrences-one}
-use Rattle.one_pixel.specs.SideSums.{overSides, sides-same, sides-none, sides-add, sum-zero, sum-only}
+use Rattle.one_pixel.specs.OneOfMany.{sum-zero, sum-only}
+use Rattle.one_pixel.specs.SideSums.{overSides, sides-same, sides-none, sides-add}
 use Rattle.one_pixel.specs.UnitEdges.{edgeAt, unitEdges, edge-exactly, edges-over-sides}
 
 -- ---- lists of lists

@@ -9,10 +9,10 @@ use Rattle.interleaving.specs.Codes.{code, column, row}
 use Rattle.interleaving.specs.Interleaving.{code-of-coordinates}
 use Rattle.unions.specs.Pairs.{Pair, pairOf, Linked, same, symmetric, transitive, listed, linked-among}
 use Rattle.components.specs.Joined.{Step, north, east, south, west, Beside, Joined, start, on, beside-back, connected-step}
-use Rattle.components.specs.Numbers.{alikePairs, regions}
+use Rattle.components.specs.Numbers.{alikePairs, numbers, regions}
 use Rattle.components.specs.Neighbours.{connected-linked, linked-exactly-when-connected}
 use Rattle.components.specs.Numbered.{regions-counted}
-use Rattle.one_pixel.specs.Alike.{AlikeBut, alike-back}
+use Rattle.one_pixel.specs.Agreeing.{AgreeBut, agree-back}
 use Rattle.one_pixel.specs.ClassCounts.{pairs-more, linked-fewer}
 
 -- The pixel with the code c paired with the pixels north, east, south and west of it. Where it stands at the image's border, a pair may be
@@ -25,7 +25,7 @@ neighbourPairs n c =
     ∷ pairOf c (code n (column n c - 1) (row n c))
     ∷ []
 
-module _ (n c : ℕ) (px qx : List ℕ) (alike : AlikeBut c px qx) where
+module _ (n c : ℕ) (px qx : List ℕ) (agree : AgreeBut c px qx) where
   -- These pairs, and those of neighbours of one colour in the second image.
   abbrev more : List Pair
   more = neighbourPairs n c ++ alikePairs n qx (4 ^ n)
@@ -54,7 +54,7 @@ module _ (n c : ℕ) (px qx : List ℕ) (alike : AlikeBut c px qx) where
       pick (no f) (yes q) = let back : Linked more e d = rw q (pixel-linked d (rw q at (beside-back b))) in symmetric back
       pick (no f) (no g) =
           linked-among (alikePairs n qx (4 ^ n)) more (λ i m. Memᴰ·append-right (neighbourPairs n c) m)
-          (connected-linked n qx (4 ^ n) (omega arith) (connected-step (b .from) (b .to) b (alike e g ∙ one ∙ sym (alike d f))))
+          (connected-linked n qx (4 ^ n) (omega arith) (connected-step (b .from) (b .to) b (agree e g ∙ one ∙ sym (agree d f))))
 
   joined-linked : {d e : ℕ} → Joined n px d e → Linked more d e
   joined-linked (start h) = same refl
@@ -73,9 +73,9 @@ module _ (n c : ℕ) (px qx : List ℕ) (alike : AlikeBut c px qx) where
       )
 
 -- "The number of regions then moves by at most 4, up or down" (document 02, request j).
-pub regions-move-by-four-at-most : (n c : ℕ) (px qx : List ℕ) → AlikeBut c px qx → (regions n qx ≤ regions n px + 4) × (regions n px ≤ regions n qx + 4)
-regions-move-by-four-at-most n c px qx alike =
-    (regions-grow-by-four-at-most n c px qx alike, regions-grow-by-four-at-most n c qx px (alike-back c px qx alike))
+pub regions-move-by-four-at-most : (n c : ℕ) (px qx : List ℕ) → AgreeBut c px qx → (regions n qx ≤ regions n px + 4) × (regions n px ≤ regions n qx + 4)
+regions-move-by-four-at-most n c px qx agree =
+    (regions-grow-by-four-at-most n c px qx agree, regions-grow-by-four-at-most n c qx px (agree-back c px qx agree))
 
 -- A plus of five pixels, whose middle one is repainted: its arms become four regions, beside that of the middle. Painted back, it loses
 -- four again.
@@ -85,3 +85,8 @@ plus = 0 ∷ 1 ∷ 1 ∷ 1 ∷ 0 ∷ 0 ∷ 1 ∷ 0 ∷ 0 ∷ 1 ∷ 0 ∷ 0 ∷ 0
 four-more : (regions 2 plus ≡ 3) × (regions 2 (set plus 3 2) ≡ 7)
 unfolding regions plus
 four-more = (refl, refl)
+
+-- "Region numbers may all shift" (document 02, request j): the northwest pixel repainted is region 0, and all others, which were, are region 1.
+others-shift : (numbers 1 (5 ∷ 5 ∷ 5 ∷ 5 ∷ []) ≡ 0 ∷ 0 ∷ 0 ∷ 0 ∷ []) × (numbers 1 (set (5 ∷ 5 ∷ 5 ∷ 5 ∷ []) 0 7) ≡ 0 ∷ 1 ∷ 1 ∷ 1 ∷ [])
+unfolding numbers
+others-shift = (refl, refl)

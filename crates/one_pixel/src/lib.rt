@@ -1,1 +1,1 @@
-// How many regions and how many unit edges one pixel of another colour makes more or fewer: theory only.
+// By how much one pixel of another colour moves the number of regions and that of unit edges. There is no code here.

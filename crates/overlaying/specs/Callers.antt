@@ -76,7 +76,7 @@ module _ {n : ℕ} {a b before after : BlockList} {r : Written} (p : Overlay n a
     -- "every pixel has the larger of the two colours".
     pub result-paints-larger : imageOf (resultOf after r) ≡ larger (imageOf a) (imageOf b)
     unfolding overlaid
-    result-paints-larger = merged-paints n (larger (imageOf a) (imageOf b)) (p .writes) ok small whole
+    result-paints-larger = merged-paints n (larger (imageOf a) (imageOf b)) (p .writes) ok whole
 
     pub each-pixel-larger : (c : ℕ) → getD (imageOf (resultOf after r)) c 0 ≡ max (getD (imageOf a) c 0) (getD (imageOf b) c 0)
     each-pixel-larger c =

@@ -11,7 +11,7 @@ unfoldable pub larger : List ℕ → List ℕ → List ℕ
 unfolding zipWith
 larger px qx = zipWith max px qx
 
-pub length-larger : (px qx : List ℕ) → length px ≡ length qx → length (larger px qx) ≡ length px
+length-larger : (px qx : List ℕ) → length px ≡ length qx → length (larger px qx) ≡ length px
 unfolding larger zipWith
 length-larger [] [] h = refl
 length-larger [] (y ∷ qx) h = absurd (omega arith)

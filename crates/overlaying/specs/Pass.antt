@@ -57,8 +57,8 @@ module _ {n : ℕ} {a b before : BlockList} (o : Overlayable n a b before) where
           end-on = omega (arith, appended-end w, done-on)
 
           module _ (k : colour ≡ max (getD (a .colours) i 0) (getD (b .colours) j 0)) where
-            in-image : (c : ℕ) → p .to ≤ c → c < p .to + (done - p .to) → getD (larger (imageOf a) (imageOf b)) c 0 ≡ colour
-            in-image c low high =
+            piece-coloured : (c : ℕ) → p .to ≤ c → c < p .to + (done - p .to) → getD (larger (imageOf a) (imageOf b)) c 0 ≡ colour
+            piece-coloured c low high =
                 larger-at (imageOf a) (imageOf b) c (same-size n a b (o .first) (o .second))
                 ∙ ap₂ (λ (x y : ℕ). max x y)
                 (first-there .coloured c (omega (arith, m .first .from more)) (omega (arith, done-on)))
@@ -69,7 +69,7 @@ module _ {n : ℕ} {a b before : BlockList} (o : Overlayable n a b before) where
             passing-more {i′} {j′} ei ej = record {
               first = subst (λ (c : ℕ). At n a c i′) (sym end-on) (at-onward n a (o .first) (m .first) more e (omega (arith, done-on)) (omega arith) ei);
               second = subst (λ (c : ℕ). At n b c j′) (sym end-on) (at-onward n b (o .second) (m .second) in-second f (omega (arith, done-on)) (omega arith) ej);
-              progress = progress-more (m .progress) piece-appendable in-image w;
+              progress = progress-more (m .progress) piece-appendable piece-coloured w;
             }
 
     -- The first list's end is the image's end.

@@ -10,7 +10,7 @@ use Rattle.quadtree.specs.Quadtree.{quadtree}
 use Rattle.quadtree.specs.Number.{number, numberWith}
 use Rattle.quadtree.specs.Painting.{block}
 use Rattle.quadtree.specs.BlockLists.{BlockList, listOf, imageOf, numberOf, oneShort, leastLength, tooShort, RoomFor}
-use Rattle.runs.specs.BlockWriters.{WritesBlocks, writes-none, writes-all, one-short, none-short}
+use Rattle.runs.specs.BlockWriters.{WritesBlocks, blocks-refused, blocks-written, one-short, none-short}
 use Rattle.appending.specs.Progress.{AllWritten}
 use Rattle.overlaying.specs.Larger.{larger}
 
@@ -37,7 +37,7 @@ module _ (n : ℕ) (a b lent : BlockList) where
   number-of-first h = first-some (numberOf n a) (numberWith (tooShort (4 ^ n) lent) n (b .codes) (b .levels) (b .colours)) h
 
   pub first-refused : {k : ℕ} → k ≡ numberOf n a → (k ≡ 0 → ⊥) → Overlay n a b lent lent (record { number = k; count = 0 })
-  first-refused {k} e some = record { writes = writes-none (omega arith) (e ∙ sym (number-of-first (omega (arith, e)))) }
+  first-refused {k} e some = record { writes = blocks-refused (omega arith) (e ∙ sym (number-of-first (omega (arith, e)))) }
 
   module _ (first-accepted : numberOf n a ≡ 0) where
     past-first : overlayNumber n a b lent ≡ first (numberOf n b) (when (tooShort (4 ^ n) lent) 8)
@@ -48,20 +48,20 @@ module _ (n : ℕ) (a b lent : BlockList) where
     number-of-second h = past-first ∙ first-some (numberOf n b) (when (tooShort (4 ^ n) lent) 8) h
 
     pub second-refused : {k : ℕ} → k ≡ numberOf n b → (k ≡ 0 → ⊥) → Overlay n a b lent lent (record { number = k; count = 0 })
-    second-refused {k} e some = record { writes = writes-none (omega arith) (e ∙ sym (number-of-second (omega (arith, e)))) }
+    second-refused {k} e some = record { writes = blocks-refused (omega arith) (e ∙ sym (number-of-second (omega (arith, e)))) }
 
     module _ (second-accepted : numberOf n b ≡ 0) where
       pub number-of-lent : overlayNumber n a b lent ≡ when (tooShort (4 ^ n) lent) 8
       number-of-lent = past-first ∙ first-none (numberOf n b) (when (tooShort (4 ^ n) lent) 8) second-accepted
 
       pub too-short : leastLength lent < 4 ^ n → Overlay n a b lent lent (record { number = 8; count = 0 })
-      too-short h = record { writes = writes-none (omega arith) (sym (number-of-lent ∙ one-short (4 ^ n) lent h)) }
+      too-short h = record { writes = blocks-refused (omega arith) (sym (number-of-lent ∙ one-short (4 ^ n) lent h)) }
 
       -- All blocks written.
       pub laid-over : {after : BlockList} {count : ℕ} → RoomFor (4 ^ n) lent → AllWritten n (larger (imageOf a) (imageOf b)) lent after count
           → Overlay n a b lent after (record { number = 0; count = count })
       unfolding overlaid
-      laid-over room w = record { writes = writes-all (number-of-lent ∙ none-short (4 ^ n) lent room) (w .answer) (w .lists) }
+      laid-over room w = record { writes = blocks-written (number-of-lent ∙ none-short (4 ^ n) lent room) (w .answer) (w .lists) }
 
 -- ---- two examples, n = 1
 

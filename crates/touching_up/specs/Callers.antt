@@ -3,10 +3,9 @@ use mathlib.Core.Path.{_≡_, sym, ap, _∙_}
 use mathlib.Core.Logic.{_≢_, _⊎_}
 use mathlib.Core.List.{List}
 use Prim.Native.Nat.{ℕ, _^_, _≤_, _<_}
-use native.Mathlib.Decide.{ℕ-discrete}
 use native.Mathlib.Omega.{arith}
 use lib.ListN.{length, getD, set, length-set}
-use lib.Seq.{ext-getD, getD-set-same, getD-set-other}
+use lib.Seq.{getD-set-same, getD-set-other, set-getD}
 use Rattle.sequences.specs.Cases.{first, when, first-zero, when-zero}
 use Rattle.answers.specs.declared.Written.{Written}
 use Rattle.interleaving.specs.Codes.{code}
@@ -16,16 +15,12 @@ use Rattle.quadtree.specs.BlockLists.{BlockList, imageOf, numberOf, accepted-co
 use Rattle.blocks.specs.Checking.{number-large}
 use Rattle.runs.specs.BlockWriters.{resultOf, none-short, room-unless-short, short-unless-room, merged-accepted, merged-paints}
 use Rattle.runs.specs.BlockWriters as writers
-use Rattle.touching_up.specs.Promise.{repainted, touchedUp, outside, one-beyond, both-below, in-image, touchUpNumber, TouchUp, number-of-list, number-outside, number-of-lent}
+use Rattle.touching_up.specs.Promise.{repainted, touchedUp, outside, one-beyond, both-below, not-outside, touchUpNumber, TouchUp, number-of-list, number-outside, number-of-lent}
 
 -- The pixel of a list's image with the colour that it has is no change.
 same-colour : (px : List ℕ) (c v : ℕ) → getD px c 0 ≡ v → repainted px c v ≡ px
 unfolding repainted
-same-colour px c v e = ext-getD 0 (set px c v) px (length-set px c v) (λ i l. pick i (ℕ-discrete i c) (omega (arith, length-set px c v)))
-  where
-    pick : (i : ℕ) → Dec (i ≡ c) → i < length px → getD (set px c v) i 0 ≡ getD px i 0
-    pick i (yes f) l = ap (λ (j : ℕ). getD (set px c v) j 0) f ∙ getD-set-same px c v 0 (omega arith) ∙ sym e ∙ ap (λ (j : ℕ). getD px j 0) (sym f)
-    pick i (no f) l = getD-set-other px c i v 0 f
+same-colour px c v e = ap (set px c) (sym e) ∙ set-getD px c 0
 
 module _ {n : ℕ} {a : BlockList} {x y v : ℕ} {before after : BlockList} {r : Written} (p : TouchUp n a x y v before after r) where
   number-answered : r .number ≡ touchUpNumber n a x y before
@@ -57,7 +52,7 @@ module _ {n : ℕ} {a : BlockList} {x y v : ℕ} {before after : BlockList} {r :
       let none : touchUpNumber n a x y before ≡ 0 = sym number-answered ∙ ok in
       let one = first-zero (numberOf n a) (first (when (outside (2 ^ n) x y) 21) (when (tooShort (4 ^ n) before) 8)) none in
       let two = first-zero (when (outside (2 ^ n) x y) 21) (when (tooShort (4 ^ n) before) 8) (one .1) in
-      let pixel = in-image (2 ^ n) x y (when-zero (outside (2 ^ n) x y) 21 (omega arith) (two .0)) in
+      let pixel = not-outside (2 ^ n) x y (when-zero (outside (2 ^ n) x y) 21 (omega arith) (two .0)) in
       (one .0, pixel .0, pixel .1, room-unless-short (4 ^ n) before (two .1))
 
   -- After a refusal the count is 0 and all lists are as they were.
@@ -93,7 +88,7 @@ module _ {n : ℕ} {a : BlockList} {x y v : ℕ} {before after : BlockList} {r :
     -- "the image with that pixel alone changed".
     pub result-paints : imageOf (resultOf after r) ≡ repainted (imageOf a) (code n x y) v
     unfolding touchedUp
-    result-paints = merged-paints n (repainted (imageOf a) (code n x y) v) (p .writes) ok small whole
+    result-paints = merged-paints n (repainted (imageOf a) (code n x y) v) (p .writes) ok whole
 
     pub that-pixel : getD (imageOf (resultOf after r)) (code n x y) 0 ≡ v
     unfolding repainted

@@ -59,9 +59,9 @@ module _ {n : ℕ} {a : BlockList} {c v : ℕ} {before : BlockList} (o : Repaint
             end-on = omega (arith, appended-end w, done-on)
 
             module _ (g : colour ≡ pieceColour (p .to) c (getD (a .colours) i 0) v) where
-              in-image : (k : ℕ) → p .to ≤ k → k < p .to + (done - p .to) → getD (repainted (imageOf a) c v) k 0 ≡ colour
+              piece-coloured : (k : ℕ) → p .to ≤ k → k < p .to + (done - p .to) → getD (repainted (imageOf a) c v) k 0 ≡ colour
               unfolding repainted
-              in-image k low high = pick (ℕ-discrete (p .to) c)
+              piece-coloured k low high = pick (ℕ-discrete (p .to) c)
                 where
                   size : length (imageOf a) ≡ 4 ^ n
                   size = length-image n a (accepted-covers n a (o .accepted))
@@ -80,7 +80,7 @@ module _ {n : ℕ} {a : BlockList} {c v : ℕ} {before : BlockList} (o : Repaint
               pub passing-more : {i′ : ℕ} → i′ ≡ nextPlace i ending done → Passing n a c v before after q i′
               passing-more {i′} ei = record {
                 at = subst (λ (k : ℕ). At n a k i′) (sym end-on) (at-onward n a (o .accepted) (m .at) more e (omega (arith, done-on)) (cut .fits) ei);
-                progress = progress-more (m .progress) piece-appendable in-image w;
+                progress = progress-more (m .progress) piece-appendable piece-coloured w;
               }
 
     -- The list's end is the image's end.

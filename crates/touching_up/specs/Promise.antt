@@ -18,7 +18,7 @@ use Rattle.quadtree.specs.Number.{number}
 use Rattle.quadtree.specs.Painting.{block}
 use Rattle.quadtree.specs.BlockLists.{BlockList, listOf, imageOf, numberOf, oneShort, leastLength, tooShort, RoomFor}
 use Rattle.runs.specs.Stored.{stored}
-use Rattle.runs.specs.BlockWriters.{WritesBlocks, writes-none, writes-all, one-short, none-short}
+use Rattle.runs.specs.BlockWriters.{WritesBlocks, blocks-refused, blocks-written, one-short, none-short}
 use Rattle.appending.specs.Progress.{AllWritten}
 
 -- "the image with that pixel alone changed" (document 02, request j): an image in rising location code, the pixel by its code, and its
@@ -44,8 +44,8 @@ pub both-below : (w x y : ℕ) → x < w → y < w → outside w x y ≡ false
 unfolding outside
 both-below w x y g h = ap₂ _||_ (lt-leb w x g) (lt-leb w y h)
 
-pub in-image : (w x y : ℕ) → outside w x y ≡ false → (x < w) × (y < w)
-in-image w x y h = (pick x (λ l. inl l) (decLt x w), pick y (λ l. inr l) (decLt y w))
+pub not-outside : (w x y : ℕ) → outside w x y ≡ false → (x < w) × (y < w)
+not-outside w x y h = (pick x (λ l. inl l) (decLt x w), pick y (λ l. inr l) (decLt y w))
   where
     pick : (z : ℕ) → (w ≤ z → (w ≤ x) ⊎ (w ≤ y)) → Dec (z < w) → z < w
     pick z far (yes l) = l
@@ -68,7 +68,7 @@ module _ (n : ℕ) (a : BlockList) (x y v : ℕ) (lent : BlockList) where
   number-of-list h = first-some (numberOf n a) _ h
 
   pub list-refused : {k : ℕ} → k ≡ numberOf n a → (k ≡ 0 → ⊥) → TouchUp n a x y v lent lent (record { number = k; count = 0 })
-  list-refused {k} e some = record { writes = writes-none (omega arith) (e ∙ sym (number-of-list (omega (arith, e)))) }
+  list-refused {k} e some = record { writes = blocks-refused (omega arith) (e ∙ sym (number-of-list (omega (arith, e)))) }
 
   module _ (accepted : numberOf n a ≡ 0) where
     past-list : touchUpNumber n a x y lent ≡ first (when (outside (2 ^ n) x y) 21) (when (tooShort (4 ^ n) lent) 8)
@@ -81,7 +81,7 @@ module _ (n : ℕ) (a : BlockList) (x y v : ℕ) (lent : BlockList) where
         past-list ∙ first-some (when (outside (2 ^ n) x y) 21) (when (tooShort (4 ^ n) lent) 8) (omega (arith, e)) ∙ e
 
     pub pixel-outside : outside (2 ^ n) x y ≡ true → TouchUp n a x y v lent lent (record { number = 21; count = 0 })
-    pixel-outside h = record { writes = writes-none (omega arith) (sym (number-outside h)) }
+    pixel-outside h = record { writes = blocks-refused (omega arith) (sym (number-outside h)) }
 
     module _ (inside : outside (2 ^ n) x y ≡ false) where
       pub number-of-lent : touchUpNumber n a x y lent ≡ when (tooShort (4 ^ n) lent) 8
@@ -89,7 +89,7 @@ module _ (n : ℕ) (a : BlockList) (x y v : ℕ) (lent : BlockList) where
           past-list ∙ first-none (when (outside (2 ^ n) x y) 21) (when (tooShort (4 ^ n) lent) 8) (when-no (outside (2 ^ n) x y) 21 inside)
 
       pub too-short : leastLength lent < 4 ^ n → TouchUp n a x y v lent lent (record { number = 8; count = 0 })
-      too-short h = record { writes = writes-none (omega arith) (sym (number-of-lent ∙ one-short (4 ^ n) lent h)) }
+      too-short h = record { writes = blocks-refused (omega arith) (sym (number-of-lent ∙ one-short (4 ^ n) lent h)) }
 
       -- All blocks written; c is the code of the pixel.
       pub all-repainted : {after : BlockList} {count : ℕ} (c : ℕ) → RoomFor (4 ^ n) lent → c ≡ code n x y → AllWritten n (repainted (imageOf a) c v) lent after count
@@ -99,7 +99,7 @@ module _ (n : ℕ) (a : BlockList) (x y v : ℕ) (lent : BlockList) where
           let same : quadtree n (repainted (imageOf a) c v) ≡ touchedUp n a x y v = ap (λ (k : ℕ). quadtree n (repainted (imageOf a) k v)) e in
           record {
             writes =
-                writes-all (number-of-lent ∙ none-short (4 ^ n) lent room) (w .answer ∙ ap length same)
+                blocks-written (number-of-lent ∙ none-short (4 ^ n) lent room) (w .answer ∙ ap length same)
                 (w .lists ∙ ap (λ (bs : List Block). stored 0 bs lent) same);
           }
 

@@ -1,4 +1,4 @@
-// One pass over a block list: from the end of one piece to the end of the block where it stands, with the pixel that is repainted as a
+// One pass over a block list with a cursor: from the end of one piece to the end of the block there. The pixel that is repainted is a
 // piece of its own.
 use appending::Pending;
 use appending::append;

@@ -35,7 +35,7 @@ mod tests {
     #[test]
     fn two_by_two() {
         let list = |colours: [u16; 4]| quadtree(1, &colours);
-        let one = |colour: u16| Blocks { codes: vec![0], levels: vec![1], colours: vec![colour] };
+        let one = |colour: u16| Blocks::of(&[(0, 1, colour)]);
         assert_eq!(overlay(1, &list([1, 2, 2, 2]), &list([2, 1, 1, 1]), [4; 3]), Ok(one(2)));
         assert_eq!(overlay(1, &list([255, 256, 255, 256]), &one(256), [4; 3]), Ok(one(256)));
         assert_eq!(overlay(1, &one(257), &list([256, 257, 258, 1]), [4; 3]), Ok(list([257, 257, 258, 257])));
@@ -52,7 +52,7 @@ mod tests {
     /// The first list's number before the second's.
     #[test]
     fn faults_in_order() {
-        let list = |level: u8| Blocks { codes: vec![0], levels: vec![level], colours: vec![1] };
+        let list = |level: u8| Blocks::of(&[(0, level, 1)]);
         let answers = |n: u32, first: u8, second: u8| overlay(n, &list(first), &list(second), [0; 3]);
         assert_eq!(answers(1, 2, 0), Err(3));
         assert_eq!(answers(1, 0, 2), Err(6));

@@ -12,7 +12,7 @@ use Rattle.interleaving.specs.Splitting.{code-wider}
 use Rattle.location.specs.Levels.{side-is-power, pixels-are-power}
 use Rattle.quadtree.specs.Accepted.{number-zero}
 use Rattle.quadtree.specs.BlockLists.{listOf, numberOf, RoomFor}
-use Rattle.touching_up.specs.Promise.{outside, in-image, list-refused, pixel-outside, too-short, all-repainted}
+use Rattle.touching_up.specs.Promise.{outside, not-outside, list-refused, pixel-outside, too-short, all-repainted}
 use Rattle.touching_up.proofs.touch_up.Statement.{statement}
 use Rattle.touching_up.proofs.touch_up.Tie as tie
 
@@ -71,7 +71,7 @@ inside c = sym (asked (judged c)) ∙ c .if2 .left
 below : (c : tie.Else2) → let a = entry (judged c) .args in (a .x < 2 ^ a .n) × (a .y < 2 ^ a .n) × (2 ^ a .n ≤ 256)
 below c =
     let a = entry (judged c) .args in
-    let pixel = in-image (2 ^ a .n) (a .x) (a .y) (inside c) in
+    let pixel = not-outside (2 ^ a .n) (a .x) (a .y) (inside c) in
     (pixel .0, pixel .1, pow2-mono (small (judged c)))
 
 pixel-code : (c : tie.After-code) → let a = entry (judged (enough c .before)) .args in c .code .result ≡ code (a .n) (a .x) (a .y)
