@@ -10,7 +10,7 @@ use Rattle.interleaving.specs.Codes.{code}
 use Rattle.quadtree.specs.Orders.{in-rows-at}
 use Rattle.answers.specs.declared.Written.{Written}
 use Rattle.quadtree.specs.BlockLists.{BlockList, blocksOf, imageOf, numberOf}
-use Rattle.runs.specs.BlockWriters.{resultOf}
+use Rattle.block_answers.specs.BlockWriters.{resultOf}
 use Rattle.overlaying.specs.Larger.{larger}
 use Rattle.overlaying.specs.Promise.{Overlay}
 use Rattle.overlaying.specs.Callers.{accepted-only, result-accepted, result-paints-larger, each-pixel-larger}

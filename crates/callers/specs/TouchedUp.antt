@@ -15,7 +15,7 @@ use Rattle.quadtree.specs.Raster.{place, inRows}
 use Rattle.quadtree.specs.Orders.{place-of-code, code-of-place, place-of-pixel, length-in-rows, in-rows-at}
 use Rattle.quadtree.specs.BlockLists.{BlockList, imageOf, accepted-covers, length-image}
 use Rattle.answers.specs.declared.Written.{Written}
-use Rattle.runs.specs.BlockWriters.{resultOf}
+use Rattle.block_answers.specs.BlockWriters.{resultOf}
 use Rattle.touching_up.specs.Promise.{repainted, TouchUp}
 use Rattle.touching_up.specs.Callers.{accepted-only, result-accepted, result-paints}
 use Rattle.painting.specs.Promise.{ToRaster}

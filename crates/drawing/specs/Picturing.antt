@@ -1,21 +1,21 @@
 -- From a raster to its lines: what is asked at each step, and what each step says.
 use mathlib.Core.Path.{_≡_, sym, ap, _∙_, subst}
-use mathlib.Core.List.{List, map}
+use mathlib.Core.List.{List}
 use Prim.Native.Nat.{ℕ, _*_, _^_, _≤_}
 use native.Mathlib.Omega.{arith}
-use lib.ListN.{length, take, drop, length-append, length-map, length-take}
+use lib.ListN.{length, take, drop, length-append, length-take}
+use Rattle.sequences.specs.Cases.{ifAccepted}
 use Rattle.sequences.specs.Over.{over}
 use Rattle.sequences.specs.Powers.{pow4-mono}
-use Rattle.quadtree.specs.Blocks.{Block, blocks, paint}
-use Rattle.quadtree.specs.Fields.{blocks-of-fields}
+use Rattle.quadtree.specs.Blocks.{blocks, paint}
 use Rattle.quadtree.specs.Number.{number}
-use Rattle.quadtree.specs.Painting.{paint-quadtree}
-use Rattle.quadtree.specs.Quadtree.{quadtree}
 use Rattle.quadtree.specs.Raster.{inCodeOrder}
 use Rattle.quadtree.specs.Orders.{length-in-code-order}
-use Rattle.merging.specs.Promise.{blocksWritten, FromRaster, raster-accepted}
-use Rattle.merging.specs.Callers.{codes-written, levels-written, colours-written, merged-accepted}
 use Rattle.answers.specs.declared.Written.{Written}
+use Rattle.answers.specs.Answers.{Writes}
+use Rattle.block_answers.specs.BlockWriters.{number-answered, merged-paints}
+use Rattle.merging.specs.Promise.{FromRaster, raster-accepted}
+use Rattle.merging.specs.Callers.{merged-accepted}
 use Rattle.grid.specs.Listing.{owners, ends, allCorners}
 use Rattle.grid.specs.Stretches.{length-owners}
 use Rattle.answers.specs.Put.{Put}
@@ -42,23 +42,21 @@ pub record Traceable (n : ℕ) (cs ls ks text : List ℕ) : Type 0 where
 pub few-pixels : {n : ℕ} → n ≤ 6 → 4 ^ n ≤ 4096
 few-pixels {n} h = pow4-mono {i = n} {j = 6} h
 
--- What was laid over a list is no longer than the list then is.
-over-holds : {A : Type 0} (bs : List A) (f : A → ℕ) (old : List ℕ) {list : List ℕ} {k : ℕ} → list ≡ over (map f bs) old → k ≡ length bs → k ≤ length list
+-- No more is counted than the list holds.
+count-within : {number : ℕ} {new old now : List ℕ} {r : Written} → Writes number new old now r → r .count ≤ length now
 unfolding over
-over-holds bs f old e h = omega (arith, ap length e, length-append (map f bs) (drop (length (map f bs)) old), length-map bs f)
+count-within {number} {new} {old} w =
+    omega (arith, w .count-is, ap length (w .list), length-append (ifAccepted number new) (drop (length (ifAccepted number new)) old))
 
 module _ {n : ℕ} {raster cs ls ks cs₁ ls₁ ks₁ : List ℕ} {r : Written} (p : FromRaster n raster cs ls ks cs₁ ls₁ ks₁ r) where
-  count-is : r .count ≡ length (blocksWritten n raster cs ls ks)
-  count-is = ap (λ (w : Written). w .count) (p .answer)
-
   pub count-in-codes : r .count ≤ length cs₁
-  count-in-codes = over-holds (blocksWritten n raster cs ls ks) (λ (b : Block). b .code) cs (p .in-codes) count-is
+  count-in-codes = count-within (p .writes .in-codes)
 
   pub count-in-levels : r .count ≤ length ls₁
-  count-in-levels = over-holds (blocksWritten n raster cs ls ks) (λ (b : Block). b .level) ls (p .in-levels) count-is
+  count-in-levels = count-within (p .writes .in-levels)
 
   pub count-in-colours : r .count ≤ length ks₁
-  count-in-colours = over-holds (blocksWritten n raster cs ls ks) (λ (b : Block). b .colour) ks (p .in-colours) count-is
+  count-in-colours = count-within (p .writes .in-colours)
 
 -- The quadtree of the raster is merged into lists that have room for it.
 module _ {n : ℕ} {raster text cs ls ks cs₁ ls₁ ks₁ : List ℕ} {r : Written} (d : RasterFits n raster text) (p : FromRaster n raster cs ls ks cs₁ ls₁ ks₁ r)
@@ -66,7 +64,7 @@ module _ {n : ℕ} {raster text cs ls ks cs₁ ls₁ ks₁ : List ℕ} {r : Writ
   merged-zero : r .number ≡ 0
   merged-zero =
       let few : 4 ^ n ≤ 4096 = few-pixels (d .low) in
-      ap (λ (w : Written). w .number) (p .answer)
+      number-answered (p .writes)
       ∙ sym (raster-accepted n raster cs ls ks (omega (arith, d .low)) (d .whole) (omega arith) (omega arith) (omega arith))
 
   pub merged-traceable : length cs₁ ≤ 4096 → Traceable n (take (r .count) cs₁) (take (r .count) ls₁) (take (r .count) ks₁) text
@@ -75,11 +73,7 @@ module _ {n : ℕ} {raster text cs ls ks cs₁ ls₁ ks₁ : List ℕ} {r : Writ
 
   -- It paints the raster's image.
   merged-image : paint (blocks (take (r .count) cs₁) (take (r .count) ls₁) (take (r .count) ks₁)) ≡ inCodeOrder n raster
-  merged-image =
-      let px : List ℕ = inCodeOrder n raster in
-      let bs : blocks (take (r .count) cs₁) (take (r .count) ls₁) (take (r .count) ks₁) ≡ quadtree n px =
-      rw (codes-written p merged-zero, levels-written p merged-zero, colours-written p merged-zero) (blocks-of-fields (quadtree n px)) in
-      ap paint bs ∙ paint-quadtree n px (length-in-code-order n raster)
+  merged-image = merged-paints n (inCodeOrder n raster) (p .writes) merged-zero (length-in-code-order n raster)
 
   pub merged-drawn : {text₁ text′ : List ℕ} {k : ℕ} → Put (imageText n (paint (blocks (take (r .count) cs₁) (take (r .count) ls₁) (take (r .count) ks₁)))) text₁ text′ k
       → Put (imageText n (inCodeOrder n raster)) text₁ text′ k

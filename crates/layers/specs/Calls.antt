@@ -5,7 +5,7 @@ use Prim.Native.Nat.{ℕ, _^_}
 use lib.ListN.{length, take}
 use Rattle.quadtree.specs.BlockLists.{BlockList, listOf, numberOf, RoomFor}
 use Rattle.answers.specs.declared.Written.{Written}
-use Rattle.runs.specs.BlockWriters.{resultOf}
+use Rattle.block_answers.specs.BlockWriters.{resultOf}
 use Rattle.overlaying.specs.Promise.{Overlay}
 
 -- What a call leaves: the three lists at exit, and its answer.

@@ -11,7 +11,7 @@ use Rattle.quadtree.specs.Covering.{Covers, zero-of-covers}
 use Rattle.quadtree.specs.Painting.{paint-block}
 use Rattle.quadtree.specs.Accepted.{number-zero, zero-number}
 use Rattle.quadtree.specs.BlockLists.{BlockList, blocksOf, imageOf, numberOf, accepted-covers, length-image}
-use Rattle.runs.specs.BlockWriters.{result-counted}
+use Rattle.block_answers.specs.BlockWriters.{result-counted}
 use Rattle.overlaying.specs.Larger.{larger}
 use Rattle.overlaying.specs.Callers.{not-refused, result-accepted, result-paints-larger, no-other-list}
 use Rattle.layers.specs.Calls.{Out, result, Call, singleBlock, Gives}

@@ -1,4 +1,5 @@
--- What a caller knows, from the promise, about the answer and the lists at exit.
+-- What a caller knows, from the promise, about the answer and the lists at exit. What holds of every writer of a block list, by `writes`,
+-- stands in `block_answers`: a refusal leaves all, the blocks are counted, the lists hold them, what lies beyond is unchanged.
 use mathlib.Core.Path.{_≡_, sym, ap, _∙_}
 use mathlib.Core.List.{List}
 use Prim.Native.Nat.{ℕ, _^_, _≤_, _<_, max}
@@ -10,8 +11,8 @@ use Rattle.quadtree.specs.Number.{numberWith}
 use Rattle.quadtree.specs.Accepted.{number-zero}
 use Rattle.quadtree.specs.BlockLists.{BlockList, imageOf, numberOf, RoomFor, tooShort}
 use Rattle.blocks.specs.Checking.{number-large}
-use Rattle.runs.specs.BlockWriters.{resultOf, none-short, room-unless-short, short-unless-room, merged-accepted, merged-paints, no-other-list as one-list}
-use Rattle.runs.specs.BlockWriters as writers
+use Rattle.block_answers.specs.BlockWriters.{resultOf, none-short, room-unless-short, short-unless-room, merged-accepted, merged-paints, no-other-list as one-list}
+use Rattle.block_answers.specs.BlockWriters as writers
 use Rattle.overlaying.specs.Larger.{larger, larger-at, same-size, length-of-larger}
 use Rattle.overlaying.specs.Promise.{overlaid, overlayNumber, Overlay, number-of-first, number-of-second, number-of-lent}
 
@@ -47,10 +48,6 @@ module _ {n : ℕ} {a b before after : BlockList} {r : Written} (p : Overlay n a
       let two = first-zero (numberOf n b) (when (tooShort (4 ^ n) before) 8) (one .1) in
       (one .0, two .0, room-unless-short (4 ^ n) before (two .1))
 
-  -- After a refusal the count is 0 and all lists are as they were.
-  pub refusal-leaves-all : 0 < r .number → (r .count ≡ 0) × (after ≡ before)
-  refusal-leaves-all h = writers.refusal-leaves-all (p .writes) h
-
   -- ---- the result
 
   module _ (ok : r .number ≡ 0) where
@@ -59,14 +56,6 @@ module _ {n : ℕ} {a b before after : BlockList} {r : Written} (p : Overlay n a
 
     whole : length (larger (imageOf a) (imageOf b)) ≡ 4 ^ n
     whole = length-of-larger n a b (accepted-only ok .0) (accepted-only ok .1)
-
-    pub blocks-counted : r .count ≡ length (overlaid n a b)
-    blocks-counted = writers.blocks-counted (p .writes) ok
-
-    -- Entries beyond the count are as they were.
-    pub beyond-unchanged : (i : ℕ) → r .count ≤ i
-        → (getD (after .codes) i 0 ≡ getD (before .codes) i 0) × (getD (after .levels) i 0 ≡ getD (before .levels) i 0) × (getD (after .colours) i 0 ≡ getD (before .colours) i 0)
-    beyond-unchanged i h = writers.beyond-unchanged (p .writes) ok i h
 
     -- "The result is an accepted list".
     pub result-accepted : numberOf n (resultOf after r) ≡ 0

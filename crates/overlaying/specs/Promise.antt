@@ -10,7 +10,8 @@ use Rattle.quadtree.specs.Quadtree.{quadtree}
 use Rattle.quadtree.specs.Number.{number, numberWith}
 use Rattle.quadtree.specs.Painting.{block}
 use Rattle.quadtree.specs.BlockLists.{BlockList, listOf, imageOf, numberOf, oneShort, leastLength, tooShort, RoomFor}
-use Rattle.runs.specs.BlockWriters.{WritesBlocks, blocks-refused, blocks-written, one-short, none-short}
+use Rattle.block_answers.specs.BlockWriters.{WritesBlocks, blocks-refused, blocks-written, one-short, none-short}
+use Rattle.runs.specs.Stored.{stored-in-front}
 use Rattle.appending.specs.Progress.{AllWritten}
 use Rattle.overlaying.specs.Larger.{larger}
 
@@ -61,7 +62,7 @@ module _ (n : ℕ) (a b lent : BlockList) where
       pub laid-over : {after : BlockList} {count : ℕ} → RoomFor (4 ^ n) lent → AllWritten n (larger (imageOf a) (imageOf b)) lent after count
           → Overlay n a b lent after (record { number = 0; count = count })
       unfolding overlaid
-      laid-over room w = record { writes = blocks-written (number-of-lent ∙ none-short (4 ^ n) lent room) (w .answer) (w .lists) }
+      laid-over {after} room w = record { writes = blocks-written (number-of-lent ∙ none-short (4 ^ n) lent room) (w .answer) (stored-in-front (overlaid n a b) lent after (w .lists)) }
 
 -- ---- two examples, n = 1
 

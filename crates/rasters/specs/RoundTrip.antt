@@ -2,18 +2,16 @@
 use mathlib.Core.Path.{_≡_, sym, ap, _∙_}
 use mathlib.Core.List.{List}
 use Prim.Native.Nat.{ℕ, _^_, _≤_}
-use lib.ListN.{length, take, length-map}
-use Rattle.quadtree.specs.Blocks.{Block, blocks, paint}
-use Rattle.quadtree.specs.Fields.{blocks-of-fields}
-use Rattle.quadtree.specs.Quadtree.{quadtree}
+use lib.ListN.{length, take}
+use Rattle.quadtree.specs.Blocks.{blocks, paint}
 use Rattle.quadtree.specs.Number.{number}
-use Rattle.quadtree.specs.Painting.{paint-quadtree}
 use Rattle.quadtree.specs.Accepted.{number-zero}
 use Rattle.quadtree.specs.Raster.{inCodeOrder, inRows}
 use Rattle.quadtree.specs.Orders.{rows-after-code-order, length-in-code-order, length-in-rows}
 use Rattle.answers.specs.declared.Written.{Written}
+use Rattle.block_answers.specs.BlockWriters.{number-answered, result-counted, merged-paints}
 use Rattle.merging.specs.Promise.{FromRaster, raster-accepted}
-use Rattle.merging.specs.Callers.{blocks-counted, codes-written, levels-written, colours-written, small-whole, merged-accepted, the-one-list}
+use Rattle.merging.specs.Callers.{small-whole, merged-accepted, the-one-list}
 use Rattle.painting.specs.Promise.{ToRaster}
 use Rattle.painting.specs.Callers.{painted}
 
@@ -24,13 +22,8 @@ pub raster-there-and-back : {n : ℕ} {raster cs ls ks cs₁ ls₁ ks₁ : List 
 raster-there-and-back {n} {raster} {cs} {ls} {ks} {cs₁} {ls₁} {ks₁} {r} p ok {old} {raster₁} {s} room q =
     let px : List ℕ = inCodeOrder n raster in
     let done = painted (merged-accepted p ok) room q in
-    let bs : blocks (take (r .count) cs₁) (take (r .count) ls₁) (take (r .count) ks₁) ≡ quadtree n px =
-    rw (codes-written p ok, levels-written p ok, colours-written p ok) (blocks-of-fields (quadtree n px)) in (
-      done .0,
-      done .1,
-      done .2 ∙ ap (λ (l : List Block). inRows n (paint l)) bs
-          ∙ ap (inRows n) (paint-quadtree n px (length-in-code-order n raster)) ∙ rows-after-code-order n raster (small-whole p ok .1),
-    )
+    let painted-back = merged-paints n px (p .writes) ok (length-in-code-order n raster) in
+    (done .0, done .1, done .2 ∙ ap (inRows n) painted-back ∙ rows-after-code-order n raster (small-whole p ok .1))
 
 -- Raster to blocks after blocks to raster gives the same list, for every accepted list.
 pub blocks-there-and-back : {n : ℕ} {cs ls ks old raster₁ : List ℕ} {s : Written} → number n cs ls ks ≡ 0 → 4 ^ n ≤ length old → ToRaster n cs ls ks old raster₁ s
@@ -42,9 +35,7 @@ blocks-there-and-back {n} {cs} {ls} {ks} {old} {raster₁} {s} e room q {cs₀} 
     let size : length (take (s .count) raster₁) ≡ 4 ^ n = ap length image ∙ length-in-rows n (paint (blocks cs ls ks)) in
     let small : n ≤ 8 = number-zero n cs ls ks e .small in
     let zero-number : r .number ≡ 0 =
-    ap (λ (w : Written). w .number) (p .answer) ∙ sym (raster-accepted n (take (s .count) raster₁) cs₀ ls₀ ks₀ small size a b c) in
+    number-answered (p .writes) ∙ sym (raster-accepted n (take (s .count) raster₁) cs₀ ls₀ ks₀ small size a b c) in
     let one = the-one-list p zero-number cs ls ks e (sym image) in
-    let bs : List Block = quadtree n (inCodeOrder n (take (s .count) raster₁)) in
-    let count : r .count ≡ length cs =
-    blocks-counted p zero-number ∙ sym (length-map bs (λ (b : Block). b .code)) ∙ ap length (sym (codes-written p zero-number) ∙ one .0) in
+    let count : r .count ≡ length cs = result-counted (p .writes) zero-number ∙ ap length (one .0) in
     (zero-number, count, one .0, one .1, one .2)

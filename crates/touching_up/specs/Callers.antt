@@ -1,4 +1,5 @@
--- What a caller knows, from the promise, about the answer and the lists at exit.
+-- What a caller knows, from the promise, about the answer and the lists at exit. What holds of every writer of a block list, by `writes`,
+-- stands in `block_answers`: a refusal leaves all, the blocks are counted, the lists hold them, what lies beyond is unchanged.
 use mathlib.Core.Path.{_≡_, sym, ap, _∙_}
 use mathlib.Core.Logic.{_≢_, _⊎_}
 use mathlib.Core.List.{List}
@@ -13,8 +14,8 @@ use Rattle.interleaving.specs.Interleaving.{code-below}
 use Rattle.quadtree.specs.Accepted.{number-zero}
 use Rattle.quadtree.specs.BlockLists.{BlockList, imageOf, numberOf, accepted-covers, length-image, RoomFor, tooShort}
 use Rattle.blocks.specs.Checking.{number-large}
-use Rattle.runs.specs.BlockWriters.{resultOf, none-short, room-unless-short, short-unless-room, merged-accepted, merged-paints}
-use Rattle.runs.specs.BlockWriters as writers
+use Rattle.block_answers.specs.BlockWriters.{resultOf, none-short, room-unless-short, short-unless-room, merged-accepted, merged-paints}
+use Rattle.block_answers.specs.BlockWriters as writers
 use Rattle.touching_up.specs.Promise.{repainted, touchedUp, outside, one-beyond, both-below, not-outside, touchUpNumber, TouchUp, number-of-list, number-outside, number-of-lent}
 
 -- The pixel of a list's image with the colour that it has is no change.
@@ -55,10 +56,6 @@ module _ {n : ℕ} {a : BlockList} {x y v : ℕ} {before after : BlockList} {r :
       let pixel = not-outside (2 ^ n) x y (when-zero (outside (2 ^ n) x y) 21 (omega arith) (two .0)) in
       (one .0, pixel .0, pixel .1, room-unless-short (4 ^ n) before (two .1))
 
-  -- After a refusal the count is 0 and all lists are as they were.
-  pub refusal-leaves-all : 0 < r .number → (r .count ≡ 0) × (after ≡ before)
-  refusal-leaves-all h = writers.refusal-leaves-all (p .writes) h
-
   -- ---- the result
 
   module _ (ok : r .number ≡ 0) where
@@ -71,14 +68,6 @@ module _ {n : ℕ} {a : BlockList} {x y v : ℕ} {before after : BlockList} {r :
     whole : length (repainted (imageOf a) (code n x y) v) ≡ 4 ^ n
     unfolding repainted
     whole = length-set (imageOf a) (code n x y) v ∙ size
-
-    pub blocks-counted : r .count ≡ length (touchedUp n a x y v)
-    blocks-counted = writers.blocks-counted (p .writes) ok
-
-    -- Entries beyond the count are as they were.
-    pub beyond-unchanged : (i : ℕ) → r .count ≤ i
-        → (getD (after .codes) i 0 ≡ getD (before .codes) i 0) × (getD (after .levels) i 0 ≡ getD (before .levels) i 0) × (getD (after .colours) i 0 ≡ getD (before .colours) i 0)
-    beyond-unchanged i h = writers.beyond-unchanged (p .writes) ok i h
 
     -- The result is an accepted list.
     pub result-accepted : numberOf n (resultOf after r) ≡ 0

@@ -17,8 +17,8 @@ use Rattle.quadtree.specs.Quadtree.{quadtree}
 use Rattle.quadtree.specs.Number.{number}
 use Rattle.quadtree.specs.Painting.{block}
 use Rattle.quadtree.specs.BlockLists.{BlockList, listOf, imageOf, numberOf, oneShort, leastLength, tooShort, RoomFor}
-use Rattle.runs.specs.Stored.{stored}
-use Rattle.runs.specs.BlockWriters.{WritesBlocks, blocks-refused, blocks-written, one-short, none-short}
+use Rattle.runs.specs.Stored.{stored, stored-in-front}
+use Rattle.block_answers.specs.BlockWriters.{WritesBlocks, blocks-refused, blocks-written, one-short, none-short}
 use Rattle.appending.specs.Progress.{AllWritten}
 
 -- "the image with that pixel alone changed" (document 02, request j): an image in rising location code, the pixel by its code, and its
@@ -95,12 +95,12 @@ module _ (n : ℕ) (a : BlockList) (x y v : ℕ) (lent : BlockList) where
       pub all-repainted : {after : BlockList} {count : ℕ} (c : ℕ) → RoomFor (4 ^ n) lent → c ≡ code n x y → AllWritten n (repainted (imageOf a) c v) lent after count
           → TouchUp n a x y v lent after (record { number = 0; count = count })
       unfolding touchedUp
-      all-repainted c room e w =
+      all-repainted {after} c room e w =
           let same : quadtree n (repainted (imageOf a) c v) ≡ touchedUp n a x y v = ap (λ (k : ℕ). quadtree n (repainted (imageOf a) k v)) e in
           record {
             writes =
                 blocks-written (number-of-lent ∙ none-short (4 ^ n) lent room) (w .answer ∙ ap length same)
-                (w .lists ∙ ap (λ (bs : List Block). stored 0 bs lent) same);
+                (stored-in-front (touchedUp n a x y v) lent after (w .lists ∙ ap (λ (bs : List Block). stored 0 bs lent) same));
           }
 
 -- ---- examples, n = 1

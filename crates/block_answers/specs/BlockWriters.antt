@@ -18,7 +18,6 @@ use Rattle.quadtree.specs.Quadtree.{quadtree}
 use Rattle.quadtree.specs.Painting.{paint-quadtree}
 use Rattle.quadtree.specs.Accepted.{quadtree-accepted, one-accepted-list}
 use Rattle.quadtree.specs.BlockLists.{BlockList, listOf, imageOf, numberOf, leastLength, tooShort, short-by-least, RoomFor, room-by-least}
-use Rattle.runs.specs.Stored.{stored, stored-in-front}
 
 -- A writer of the blocks bs whose causes give `number`: with one answer it writes each of the three lists, `before` and then `after`. The
 -- count is that of the blocks; a refusal gives the number and 0, and leaves the lists as they were.
@@ -37,10 +36,10 @@ module _ {number : ℕ} {bs : List Block} {lent : BlockList} where
       by (suc k) p e =
           record { in-codes = writes-none _ k (sym e) refl refl; in-levels = writes-none _ k (sym e) refl refl; in-colours = writes-none _ k (sym e) refl refl }
 
-  pub blocks-written : {after : BlockList} {count : ℕ} → number ≡ 0 → count ≡ length bs → after ≡ stored 0 bs lent
+  pub blocks-written : {after : BlockList} {count : ℕ} → number ≡ 0 → count ≡ length bs
+      → (after .codes ≡ over (codes bs) (lent .codes)) × (after .levels ≡ over (levels bs) (lent .levels)) × (after .colours ≡ over (colours bs) (lent .colours))
       → WritesBlocks number bs lent after (record { number = 0; count = count })
-  blocks-written {after} {count} none counted lists =
-      let front = stored-in-front bs lent after lists in
+  blocks-written none counted front =
       record {
         in-codes = writes-all _ none refl (record { count-is = counted ∙ sym (length-map bs (λ (b : Block). b .code)); list = front .0 });
         in-levels = writes-all _ none refl (record { count-is = counted ∙ sym (length-map bs (λ (b : Block). b .level)); list = front .1 });
