@@ -4,6 +4,8 @@ pub mod Marks
 pub mod Areas
 pub mod Promise
 pub mod Points
+pub mod Rounds
+pub mod NorthEdges
 pub mod Straight
 pub mod Walking
 pub mod Written

@@ -28,7 +28,7 @@ pub record StartsHere (n : ℕ) (map out : List ℕ) (x y : ℕ) : Type 0 where
 -- The map after that: the pixels south of the eastward edges of the cycle that starts at the pixel with the code c are marked.
 unfoldable pub cycleMarked : ℕ → List ℕ → ℕ → List ℕ
 unfolding marks numsOf cycle
-cycleMarked n map c = marks (2 ^ n) (suc (getD (numsOf n map) c 0)) (cycle n (numsOf n map) c) map
+cycleMarked n map c = marks 0 (2 ^ n) (suc (getD (numsOf n map) c 0)) (cycle n (numsOf n map) c) map
 
 -- The cycle is written: k corners at the front of the list `out`, and its marks in the map; sum is its area, within the bound. So the map's
 -- numbers and what lies beyond it are as they were, and marked are the pixels that were and those south of the cycle's eastward edges.

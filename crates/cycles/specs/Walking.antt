@@ -3,8 +3,7 @@
 use mathlib.Core.Path.{_≡_, refl, sym, ap, ap₂, _∙_, subst, subst₂}
 use mathlib.Core.Logic.{_≢_}
 use mathlib.Core.List.{List, [], _∷_, _++_, append-assoc, append-nil}
-use Prim.Native.Nat.{ℕ, zero, suc, _+_, _*_, _%_, _≤_, _<_}
-use native.Mathlib.Nat.{not-suc-le-zero}
+use Prim.Native.Nat.{ℕ, _+_, _*_, _%_, _≤_, _<_}
 use native.Mathlib.Omega.{arith}
 use lib.ListN.{length, set, length-append, length-set}
 use lib.IntN.{ℤ, pos, natAbs, _+ℤ_, _*ℤ_, +ℤ-assoc, +ℤ-idr, +ℤ-invr, *ℤ-zero}
@@ -14,18 +13,17 @@ use Rattle.lattice.specs.Walks.{turns}
 use Rattle.lattice.specs.Corners.{turns-on, turns-turn}
 use Rattle.lattice.specs.Outlines.{x-of-point, y-of-point, tail-edge, digit-edge}
 use Rattle.lattice.specs.Area.{area, legArea, legBetween, Aligned, area-push, aligned-then, legs-joined, area-size}
-use Rattle.orbits.specs.Orbits.{until, Returns}
-use Rattle.orbits.specs.StepsTo.{StepsTo, round, arrived, Further, further}
 use Rattle.grid.specs.Margins.{Margin}
 use Rattle.grid.specs.Steps.{Edge, step}
-use Rattle.grid.specs.Cycles.{edgeLimit, cycleFrom}
-use Rattle.grid.specs.Undoing.{digit-below-four, step-edge}
-use Rattle.grid.specs.Returning.{Ring, edge-returns, ring}
+use Rattle.grid.specs.Cycles.{cycleFrom}
+use Rattle.grid.specs.Undoing.{digit-below-four}
+use Rattle.grid.specs.Returning.{Ring, ring}
 use Rattle.grid.specs.Closing.{others, cycle-first}
 use Rattle.steps.specs.Look.{mapAt, Square, at-margin}
-use Rattle.cycles.specs.Marks.{mark, marks, length-mark, map-kept}
+use Rattle.cycles.specs.Marks.{mark, marks}
 use Rattle.steps.specs.Rule.{Way, way}
-use Rattle.cycles.specs.Points.{EdgeAt}
+use Rattle.cycles.specs.Points.{EdgeAt, at-start, not-at-start}
+use Rattle.cycles.specs.Rounds.{rest, leftAfter, rest-none, Underway, set-out, square-here, edge-here, past, rest-first, less, onward, all-marked}
 use Rattle.cycles.specs.Areas.{areaBound, edge-leg, edge-aligned}
 use Rattle.cycles.specs.Straight.{Straight, turning, straight-on, Gone}
 
@@ -47,25 +45,12 @@ pub record CycleWalked (side r s : ℕ) (map out map′ out′ : List ℕ) (k : 
   pub list : out′ ≡ over (cornersFrom (mapAt side map) s) out
   pub its-area : sum ≡ area (cycleFrom (mapAt side map) s)
   pub area-low : natAbs sum ≤ areaBound
-  pub marked : map′ ≡ marks side r (cycleFrom (mapAt side map) s) map
+  pub marked : map′ ≡ marks 0 side r (cycleFrom (mapAt side map) s) map
 
-one-less : {x : ℕ} {l t : List ℕ} → l ≡ x ∷ t → length t < length l
-one-less {x} {l} {t} e = omega (arith, ap length e)
-
--- What is left of the cycle from e, where s ends it.
-unfoldable pub rest : (ℕ → ℕ → ℕ) → ℕ → ℕ → List ℕ
-unfolding until step
-rest m s e = until edgeLimit (step m) s e
-
--- On the way at the edge e: `used` corners are written, sum is the area of the edges walked, and d is the digit before the edges `todo` that
--- are left. From the edge `from` on `left` steps lead back to s.
+-- On the way round at the edge e: `used` corners are written, sum is the area of the edges walked, and d is the digit before the edges `todo`
+-- that are left.
 pub record CycleUnderway (side r s : ℕ) (map₀ out₀ map out : List ℕ) (used d e from : ℕ) (todo : List ℕ) (sum : ℤ) : Type 0 where
-  pub left : ℕ
-  pub ahead : StepsTo (step (mapAt side map₀)) s from left
-  pub enough : left ≤ edgeLimit
-  pub on-region : Edge (mapAt side map₀) r e
-  pub same-map : mapAt side map ≡ mapAt side map₀
-  pub long : length map ≡ length map₀
+  pub round : Underway 0 side r s map₀ map e from todo
   pub wide : length out ≡ length out₀
   pub done : List ℕ
   pub so-far : used ≡ length done
@@ -74,7 +59,6 @@ pub record CycleUnderway (side r s : ℕ) (map₀ out₀ map out : List ℕ) (us
   pub walked : List ℕ
   pub whole : walked ++ todo ≡ cycleFrom (mapAt side map₀) s
   pub added : sum ≡ area walked
-  pub marked : marks side r todo map ≡ marks side r (cycleFrom (mapAt side map₀) s) map₀
 
 -- Before the edge e is done: a corner is due at its tail where d is not its digit. d is the digit before it, 4 at the start, and e's own
 -- once its corner is written.
@@ -93,37 +77,21 @@ module _ {side r s : ℕ} {map₀ out₀ : List ℕ} (ready : Ready side r s map
 
   begin : AtEdge side r s map₀ out₀ map₀ out₀ 0 4 s (pos 0)
   unfolding rest cornersFrom others area
-  begin = from (edge-returns (mapAt side map₀) margin-here r s (ready .on-region))
-    where
-      from : (k : ℕ) × (k ≤ edgeLimit) × Returns (step (mapAt side map₀)) s k → AtEdge side r s map₀ out₀ map₀ out₀ 0 4 s (pos 0)
-      from (zero, h, t) = absurd (not-suc-le-zero (t .positive))
-      from (suc k, h, t) = record {
-        left = k;
-        ahead = round (step (mapAt side map₀)) s k t;
-        enough = omega arith;
-        on-region = ready .on-region;
-        same-map = refl;
-        long = refl;
-        wide = refl;
-        done = [];
-        so-far = refl;
-        list = sym (over-none out₀);
-        total = turns-turn 4 s (others (mapAt side map₀) s) (omega (arith, digit-below-four s));
-        walked = [];
-        whole = sym (cycle-first (mapAt side map₀) s);
-        added = refl;
-        marked = ap (λ l. marks side r l map₀) (sym (cycle-first (mapAt side map₀) s));
-      }
+  begin = record {
+    round = set-out (ready .square) 0 (ready .on-region);
+    wide = refl;
+    done = [];
+    so-far = refl;
+    list = sym (over-none out₀);
+    total = turns-turn 4 s (others (mapAt side map₀) s) (omega (arith, digit-below-four s));
+    walked = [];
+    whole = sym (cycle-first (mapAt side map₀) s);
+    added = refl;
+  }
 
   module _ {map out : List ℕ} {used d e : ℕ} {sum : ℤ} (g : AtEdge side r s map₀ out₀ map out used d e sum) where
     next : List ℕ
     next = rest (mapAt side map₀) s (step (mapAt side map₀) e)
-
-    square-here : Square side map
-    square-here = record { small = ready .square .small; room = omega (arith, ready .square .room, g .long) }
-
-    edge-here : Edge (mapAt side map) r e
-    edge-here = subst (λ m. Edge m r e) (sym (g .same-map)) (g .on-region)
 
     -- Room for one corner more, where one is due.
     room-here : d ≢ digit e → used < length out
@@ -138,12 +106,7 @@ module _ {side r s : ℕ} {map₀ out₀ : List ℕ} (ready : Ready side r s map
     push : d ≢ digit e → AtEdge side r s map₀ out₀ map (set out used (tail e)) (used + 1) (digit e) e sum
     unfolding next
     push n = record {
-      left = g .left;
-      ahead = g .ahead;
-      enough = g .enough;
-      on-region = g .on-region;
-      same-map = g .same-map;
-      long = g .long;
+      round = g .round;
       wide = length-set out used (tail e) ∙ g .wide;
       done = g .done ++ (tail e ∷ []);
       so-far = omega (arith, length-append (g .done) (tail e ∷ []), g .so-far);
@@ -153,20 +116,14 @@ module _ {side r s : ℕ} {map₀ out₀ : List ℕ} (ready : Ready side r s map
       walked = g .walked;
       whole = g .whole;
       added = g .added;
-      marked = g .marked;
     }
 
     -- The edge is marked, its area is added, and no corner is due at its tail.
-    pass : {map′ : List ℕ} {e′ : ℕ} → d ≡ digit e → map′ ≡ mark side r map e → e′ ≡ step (mapAt side map₀) e
+    pass : {map′ : List ℕ} {e′ : ℕ} → d ≡ digit e → map′ ≡ mark 0 side r map e → e′ ≡ step (mapAt side map₀) e
         → PastEdge side r s map₀ out₀ map′ out used d e′ (sum +ℤ legBetween (tail e) (tail e′))
-    unfolding next marks
+    unfolding next
     pass {map′} {e′} same hm here = record {
-      left = g .left;
-      ahead = rw here (g .ahead);
-      enough = g .enough;
-      on-region = rw here (step-edge (mapAt side map₀) margin-here r e (g .on-region));
-      same-map = ap (mapAt side) hm ∙ map-kept square-here e edge-here ∙ g .same-map;
-      long = ap length hm ∙ length-mark side r map e ∙ g .long;
+      round = past (ready .square) (g .round) hm here;
       wide = g .wide;
       done = g .done;
       so-far = g .so-far;
@@ -175,41 +132,23 @@ module _ {side r s : ℕ} {map₀ out₀ : List ℕ} (ready : Ready side r s map
       walked = g .walked ++ (e ∷ []);
       whole = rw here (append-assoc (g .walked) (e ∷ []) next ∙ g .whole);
       added =
-          ap₂ _+ℤ_ (g .added) (ap (λ a. legBetween (tail e) (tail a)) here ∙ sym (edge-leg (mapAt side map₀) margin-here r e (g .on-region)))
+          ap₂ _+ℤ_ (g .added) (ap (λ a. legBetween (tail e) (tail a)) here ∙ sym (edge-leg (mapAt side map₀) margin-here r e (g .round .on-region)))
           ∙ sym (area-push (g .walked) e);
-      marked = rw (here, hm) (g .marked);
     }
 
   module _ {map out : List ℕ} {used d e : ℕ} {sum : ℤ} (p : PastEdge side r s map₀ out₀ map out used d e sum) where
-    more : e ≢ s → Further (step (mapAt side map₀)) s edgeLimit e (p .left)
-    more n = further (step (mapAt side map₀)) s edgeLimit e (p .left) (p .enough) n (p .ahead)
-
     again : e ≢ s → AtEdge side r s map₀ out₀ map out used d e sum
-    unfolding rest
-    again n =
-        let f : Further (step (mapAt side map₀)) s edgeLimit e (p .left) = more n in
-        record {
-          left = f .left;
-          ahead = f .ahead;
-          enough = omega (arith, f .less, p .enough);
-          on-region = p .on-region;
-          same-map = p .same-map;
-          long = p .long;
-          wide = p .wide;
-          done = p .done;
-          so-far = p .so-far;
-          list = p .list;
-          total = ap (λ t. p .done ++ turns d t) (sym (f .list)) ∙ p .total;
-          walked = p .walked;
-          whole = ap (λ t. p .walked ++ t) (sym (f .list)) ∙ p .whole;
-          added = p .added;
-          marked = ap (λ t. marks side r t map) (sym (f .list)) ∙ p .marked;
-        }
-
-    -- What is left gets shorter.
-    less : e ≢ s → length (rest (mapAt side map₀) s (step (mapAt side map₀) e)) < length (rest (mapAt side map₀) s e)
-    unfolding rest
-    less n = one-less (more n .list)
+    again n = record {
+      round = onward (ready .square) (p .round) n;
+      wide = p .wide;
+      done = p .done;
+      so-far = p .so-far;
+      list = p .list;
+      total = ap (λ t. p .done ++ turns d t) (sym (rest-first (ready .square) (p .round) n)) ∙ p .total;
+      walked = p .walked;
+      whole = ap (λ t. p .walked ++ t) (sym (rest-first (ready .square) (p .round) n)) ∙ p .whole;
+      added = p .added;
+    }
 
     -- Along the way the area stays within the bound.
     sum-size : natAbs sum ≤ areaBound
@@ -226,16 +165,16 @@ module _ {side r s : ℕ} {map₀ out₀ : List ℕ} (ready : Ready side r s map
         )
 
     finish : e ≡ s → CycleWalked side r s map₀ out₀ map out used sum
-    unfolding rest turns marks
+    unfolding turns
     finish h =
-        let z : until edgeLimit (step (mapAt side map₀)) s e ≡ [] = arrived (step (mapAt side map₀)) s edgeLimit e h in
+        let z : rest (mapAt side map₀) s e ≡ [] = rest-none (mapAt side map₀) s e h in
         let t : p .done ≡ cornersFrom (mapAt side map₀) s = sym (append-nil (p .done)) ∙ ap (λ l. p .done ++ turns d l) (sym z) ∙ p .total in
         record {
           count = p .so-far ∙ ap length t;
           list = p .list ∙ ap (λ l. over l out₀) t;
           its-area = p .added ∙ ap area (sym (append-nil (p .walked)) ∙ ap (λ l. p .walked ++ l) (sym z) ∙ p .whole);
           area-low = sum-size;
-          marked = ap (λ l. marks side r l map) (sym z) ∙ p .marked;
+          marked = all-marked (ready .square) (p .round) h;
         }
 
   -- Straight on from the edge e, whose corner is written.
@@ -251,16 +190,16 @@ module _ {side r s : ℕ} {map₀ out₀ : List ℕ} (ready : Ready side r s map
       let p : PastEdge side r s map₀ out₀ map′ out used d e′ (sum +ℤ legBetween (tail e) (tail e′)) = pass g same hm here in
       record {
         passed = p;
-        aligned = subst₂ (λ o a. Aligned o (tail e) (tail a)) (sym same) (sym here) (edge-aligned (mapAt side map₀) margin-here r e (g .on-region));
+        aligned = subst₂ (λ o a. Aligned o (tail e) (tail a)) (sym same) (sym here) (edge-aligned (mapAt side map₀) margin-here r e (g .round .on-region));
         turned = λ h. n (sym h ∙ same);
-        shorter = λ o. subst (λ a. length (rest (mapAt side map₀) s (step (mapAt side map₀) e′)) < length (rest (mapAt side map₀) s a)) here (less p o);
+        shorter = λ o. subst (λ a. length (rest (mapAt side map₀) s (step (mapAt side map₀) e′)) < length (rest (mapAt side map₀) s a)) here (less (ready .square) (p .round) o);
       }
   through {map} {map′} {out} {used} {d} {e} {e′} {sum} (straight-on straight more) same g =
       let next : ℕ = step (mapAt side map₀) e in
-      let p : PastEdge side r s map₀ out₀ (mark side r map e) out used d next (sum +ℤ legBetween (tail e) (tail next)) = pass g same refl refl in
-      let o : next ≢ s = λ h. ready .corner e (g .on-region) h (sym straight ∙ ap digit h) in
+      let p : PastEdge side r s map₀ out₀ (mark 0 side r map e) out used d next (sum +ℤ legBetween (tail e) (tail next)) = pass g same refl refl in
+      let o : next ≢ s = λ h. ready .corner e (g .round .on-region) h (sym straight ∙ ap digit h) in
       let t : Through map′ out used d next e′ (sum +ℤ legBetween (tail e) (tail next)) = through more (same ∙ sym straight) (again p o) in
-      let first : Aligned d (tail e) (tail next) = subst (λ a. Aligned a (tail e) (tail next)) (sym same) (edge-aligned (mapAt side map₀) margin-here r e (g .on-region)) in
+      let first : Aligned d (tail e) (tail next) = subst (λ a. Aligned a (tail e) (tail next)) (sym same) (edge-aligned (mapAt side map₀) margin-here r e (g .round .on-region)) in
       record {
         passed =
             subst (PastEdge side r s map₀ out₀ map′ out used d e′)
@@ -268,7 +207,7 @@ module _ {side r s : ℕ} {map₀ out₀ : List ℕ} (ready : Ready side r s map
             (t .passed);
         aligned = aligned-then first (t .aligned);
         turned = t .turned;
-        shorter = λ n. omega (arith, t .shorter n, less p o);
+        shorter = λ n. omega (arith, t .shorter n, less (ready .square) (p .round) o);
       }
 
 -- Before a run: a corner is due at (x, y), where the edge with the digit d begins, and sum is the area so far.
@@ -288,12 +227,7 @@ module _ {side r s : ℕ} {map₀ out₀ map out : List ℕ} {used x y d : ℕ} 
   due-room = room-here ready (w .going) corner-due
 
   pub due-at : EdgeAt side r map x y d
-  due-at = record { square = square-here ready (w .going); x-low = w .x-low; low = w .low; on-region = edge-here ready (w .going) }
-
--- What is left of the cycle after the edge.
-unfoldable pub leftAfter : ℕ → ℕ → List ℕ → ℕ → ℕ → ℕ → ℕ
-unfolding rest step edge point mapAt
-leftAfter side s map x y d = length (rest (mapAt side map) s (step (mapAt side map) (edge (point x y) d)))
+  due-at = record { square = square-here (ready .square) (w .going .round); x-low = w .x-low; low = w .low; on-region = edge-here (ready .square) (w .going .round) }
 
 -- The area with what the run from (x, y) to the row y′ adds.
 abbrev pub withLeg : ℤ → ℕ → ℕ → ℕ → ℤ
@@ -317,14 +251,6 @@ pub record OneCornerMore (side r column row : ℕ) (map₀ out₀ map out : List
       → CornerDue side r (edge (point column row) 0) map₀ out₀ map out used sum′ x′ y′ d′
   pub shorter : 4 * (512 * y′ + x′) + d′ ≢ 4 * (512 * row + column) → leftAfter side (edge (point column row) 0) map₀ x′ y′ d′ < leftAfter side (edge (point column row) 0) map₀ x y d
 
-at-start : (column row x y d : ℕ) → 4 * (512 * y + x) + d ≡ 4 * (512 * row + column) → edge (point x y) d ≡ edge (point column row) 0
-unfolding edge point
-at-start column row x y d h = omega arith
-
-not-at-start : (column row x y d : ℕ) → 4 * (512 * y + x) + d ≢ 4 * (512 * row + column) → edge (point x y) d ≢ edge (point column row) 0
-unfolding edge point
-not-at-start column row x y d n h = n (omega arith)
-
 module _ {side r : ℕ} (column row : ℕ) {map₀ out₀ : List ℕ} (ready : Ready side r (edge (point column row) 0) map₀ out₀) where
   pub due-at-start : column < 512 → CornerDue side r (edge (point column row) 0) map₀ out₀ map₀ out₀ 0 (pos 0) column row 0
   due-at-start h = record { x-low = h; low = omega arith; before = 4; due = omega arith; going = begin ready }
@@ -340,7 +266,7 @@ module _ {side r : ℕ} (column row : ℕ) {map₀ out₀ : List ℕ} (ready : R
         let here : ℕ = edge (point x y) d in
         let there : ℕ = edge (point x′ y′) d′ in
         let t : Through ready map′ (set out used (point x y)) used′ (digit here) here there sum =
-        through ready (subst (λ m. Straight side r m map′ there map here) (w .going .same-map) (gone .straight)) refl
+        through ready (subst (λ m. Straight side r m map′ there map here) (w .going .round .same-map) (gone .straight)) refl
         (subst₂ (λ p k. AtEdge side r (edge (point column row) 0) map₀ out₀ map (set out used p) k (digit here) here sum)
         (tail-edge (point x y) d (w .low)) one (push ready (w .going) (corner-due ready w))) in
         let leg-here : legBetween (tail here) (tail there) ≡ legArea x y y′ =
@@ -353,7 +279,7 @@ module _ {side r : ℕ} (column row : ℕ) {map₀ out₀ : List ℕ} (ready : R
         (ap (λ z. sum +ℤ z) leg-here ∙ sym e) (t .passed) in
         record {
           low = omega (arith, gone .x-low, gone .y-low, gone .low);
-          long = t .passed .long;
+          long = t .passed .round .long;
           wide = t .passed .wide;
           size = sum-size ready (passed (withLeg sum x y y′) refl);
           level = λ h. sym (y-of-point x′ y′ (omega (arith, gone .x-low))) ∙ sym (ap yOf (tail-edge (point x′ y′) d′ (gone .low)))

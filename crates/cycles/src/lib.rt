@@ -14,7 +14,7 @@ ghost use Rattle.cycles.specs.Promise.{StartsHere, CycleWritten};
 // Marks the pixel of the region r on the right of the edge from (x, y) with the digit d, if the edge goes eastward.
 fn mark_east(map: &mut [u32], side: u32, r: u32, x: u32, y: u32, d: u8)
     requires { ⌜ EdgeAt side r (now map) x y d ⌝ }
-    ensures { λ _. ⌜ now (map .exit) ≡ mark side r (now (map .entry)) (edge (point x y) d) ⌝ }
+    ensures { λ _. ⌜ now (map .exit) ≡ mark 0 side r (now (map .entry)) (edge (point x y) d) ⌝ }
 {
     if d == 0 {
         let i = (y * side + x) as usize;

@@ -12,6 +12,8 @@ ghost use Rattle.overlaying.specs.Promise.{Overlay};
 ghost use Rattle.touching_up.specs.Promise.{TouchUp};
 ghost use Rattle.regions.specs.Promise.{Numbering};
 ghost use Rattle.tracing.specs.Tracing.{lent, Tracing};
+ghost use Rattle.order_check.specs.Promise.{OrderCheck};
+ghost use Rattle.least_order.specs.Promise.{LeastOrdering};
 ghost use Rattle.stretches.specs.Stretch.{Place};
 ghost use Rattle.svg.specs.Svg.{Svg};
 ghost use Rattle.chains.specs.ChainForm.{ChainRead};
@@ -265,6 +267,43 @@ pub extern "C" fn nettlestair_trace(
         regions: traced.regions,
         cycles: traced.cycles,
         corners: traced.corners,
+    }
+}
+
+#[no_mangle]
+pub extern "C" fn nettlestair_check_order(
+    n: u32,
+    codes: &[u32],
+    levels: &[u8],
+    colours: &[u16],
+    order: &[u32],
+    labels: &mut [u32],
+    work: &mut [u32],
+) -> u32
+    ensures { λ r. ⌜ OrderCheck n (now (codes .entry)) (now (levels .entry)) (now (colours .entry)) (now (order .entry))
+        (now (labels .entry)) (now (work .entry)) (now (labels .exit)) (now (work .exit)) r ⌝ }
+{
+    order_check::check_order(n, codes, levels, colours, order, labels, work)
+}
+
+#[no_mangle]
+pub extern "C" fn nettlestair_least_order(
+    n: u32,
+    codes: &[u32],
+    levels: &[u8],
+    colours: &[u16],
+    labels: &mut [u32],
+    work: &mut [u32],
+    order: &mut [u32],
+) -> Written
+    ensures { λ r. ⌜ LeastOrdering n (now (codes .entry)) (now (levels .entry)) (now (colours .entry))
+        (now (labels .entry)) (now (work .entry)) (now (order .entry)) (now (labels .exit)) (now (work .exit)) (now (order .exit))
+        (record { number = r .number; count = r .count }) ⌝ }
+{
+    let ordered = least_order::least_order(n, codes, levels, colours, labels, work, order);
+    Written {
+        number: ordered.number,
+        count: ordered.count,
     }
 }
 

@@ -1,11 +1,14 @@
 -- What the promise says where a caller stands: about the label list, the work list and the count at exit.
-use mathlib.Core.Path.{_≡_, sym, ap, _∙_}
+use mathlib.Core.Path.{_≡_, refl, sym, ap, _∙_}
 use mathlib.Core.Logic.{_↔_}
+use mathlib.Core.Bool.{Bool, true, false, _||_, true≢false}
 use mathlib.Core.List.{List}
 use Prim.Native.Nat.{ℕ, _*_, _^_, _≤_, _<_}
 use native.Mathlib.Omega.{arith}
 use lib.ListN.{length, getD, replicate, length-replicate, getD-replicate}
-use Rattle.sequences.specs.Cases.{first-zero, written-accepted, written-refused, count-accepted, count-refused}
+use lib.Dec.{ltb}
+use borrow.Author.Tests.{ltb-false}
+use Rattle.sequences.specs.Cases.{first-zero, when-zero, written-accepted, written-refused, count-accepted, count-refused}
 use Rattle.sequences.specs.Over.{over, over-none, over-inside, over-beyond}
 use Rattle.sequences.specs.Ranges.{tabulate, tabulate-from}
 use Rattle.quadtree.specs.Blocks.{Block, blocks, paint}
@@ -20,6 +23,10 @@ use Rattle.components.specs.Labels.{length-labels, label-of-pixel, accepted-lab
 use Rattle.components.specs.Walk.{block-count}
 use Rattle.regions.specs.declared.Numbered.{Numbered}
 use Rattle.regions.specs.Promise.{numberingNumber, labelsWritten, zerosWritten, regionsCounted, Numbering, none}
+
+or-false : (a b : Bool) → a || b ≡ false → (a ≡ false) × (b ≡ false)
+or-false true b h = absurd (true≢false h)
+or-false false b h = (refl, h)
 
 -- The label of the block that holds the pixel c.
 unfoldable pub labelOfPixel : List Block → List ℕ → ℕ → ℕ
@@ -56,16 +63,24 @@ module _ {n : ℕ} {cs ls ks labels₀ work₀ labels₁ work₁ : List ℕ} {r 
     unfolding numberingNumber numberWith
     list-accepted = first-zero (number n cs ls ks) _ zero-number .0
 
+    -- Both lists are long enough.
+    pub long-enough : (length cs ≤ length labels₀) × (2 * 4 ^ n ≤ length work₀)
+    unfolding numberingNumber numberWith
+    long-enough =
+        let none-short = or-false (ltb (length labels₀) (length cs)) (ltb (length work₀) (2 * 4 ^ n))
+        (when-zero (ltb (length labels₀) (length cs) || ltb (length work₀) (2 * 4 ^ n)) 8 (omega arith) (first-zero (number n cs ls ks) _ zero-number .1)) in
+        (ltb-false (length labels₀) (length cs) (none-short .0), ltb-false (length work₀) (2 * 4 ^ n) (none-short .1))
+
     passes : Passes n cs ls ks
     passes = number-zero n cs ls ks list-accepted
 
-    labels-at-exit : labels₁ ≡ over (labels n (blocks cs ls ks)) labels₀
+    pub labels-at-exit : labels₁ ≡ over (labels n (blocks cs ls ks)) labels₀
     unfolding labelsWritten
     labels-at-exit =
         p .in-labels
         ∙ ap (λ (l : List ℕ). over l labels₀) (written-accepted (numberingNumber n cs ls ks labels₀ work₀) (labels n (blocks cs ls ks)) zero-number)
 
-    work-at-exit : work₁ ≡ over (replicate (2 * 4 ^ n) 0) work₀
+    pub work-at-exit : work₁ ≡ over (replicate (2 * 4 ^ n) 0) work₀
     unfolding zerosWritten
     work-at-exit =
         p .in-work

@@ -68,7 +68,7 @@ module _ (n : ℕ) (px : List ℕ) (small : n ≤ 8) (c : ℕ) (begins : StartAt
   zero-above = zero-down m r es closed (column n a) (low (column n a) (column-below n a)) (zero-north (suc (column n a))) (row n a) outside-north
 
   -- Around all pixels of the region it is what it is around the least one.
-  inside : (k : ℕ) → WindsAround k a → (X Y : ℕ) → m X Y ≡ r → Winds k es X Y
+  pub inside : (k : ℕ) → WindsAround k a → (X Y : ℕ) → m X Y ≡ r → Winds k es X Y
   inside k h X Y e = omega (arith, same-in-region n px small (getD nums c 0) es closed a (least .inside) owner X Y e)
 
   everywhere : (k : ℕ) → k ≤ 1 → WindsAround k a → (x Y : ℕ) → x < 2 ^ n → Between k es (suc x) Y
@@ -94,7 +94,7 @@ module _ (n : ℕ) (px : List ℕ) (small : n ≤ 8) (c : ℕ) (begins : StartAt
 
   -- Any other cycle of the region: its winding number is nowhere above 0, and -1 around the pixel north of its start.
   module _ (other : c ≢ a) where
-    not-around-least : WindsAround 0 a
+    pub not-around-least : WindsAround 0 a
     not-around-least =
         omega (
           arith,

@@ -93,10 +93,14 @@ module _ (w d : ℕ) (vertical : d % 2 ≡ 1) where
       pick e fit (no h) = crosses-no d X Y e h
       pick e fit (yes h) = crosses-yes d X Y e h ∙ none e (fit (ap (λ k. k % 2) h ∙ vertical))
 
-  -- No such edge crosses a ray north of the image, or one that begins east of it.
+  -- No such edge crosses a ray north of the image, one south of it, or one that begins east of it.
   pub no-crossings-north : (X : ℕ) (es : List ℕ) → AllFit w es → crossings d es X 0 ≡ 0
   no-crossings-north X es fits =
       no-crossings X 0 es fits (λ e f. ap (λ (s : ℕ). atMost X (xOf (tail e)) * s) (same-no 0 (rowOf e) (omega (arith, f .row-above))) ∙ omega arith)
+
+  pub no-crossings-south : (X Y : ℕ) → w < Y → (es : List ℕ) → AllFit w es → crossings d es X Y ≡ 0
+  no-crossings-south X Y far es fits =
+      no-crossings X Y es fits (λ e f. ap (λ (s : ℕ). atMost X (xOf (tail e)) * s) (same-no Y (rowOf e) (omega (arith, f .row-within))) ∙ omega arith)
 
   pub no-crossings-east : (X Y : ℕ) → w < X → (es : List ℕ) → AllFit w es → crossings d es X Y ≡ 0
   no-crossings-east X Y far es fits =

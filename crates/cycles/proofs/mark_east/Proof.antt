@@ -1,13 +1,13 @@
 -- The pixel on the right of an eastward edge of the region lies in the image, so its entry is in the list.
 use mathlib.Core.Path.{sym}
 use native.Mathlib.Omega.{arith}
-use Rattle.cycles.specs.Points.{EastPlace, east-place, no-mark}
+use Rattle.cycles.specs.Points.{MarkPlace, east-place, no-mark}
 use borrow.Author.Needs.{needs}
 use Rattle.cycles.proofs.mark_east.Statement.{statement}
 use Rattle.cycles.proofs.mark_east.Tie as tie
 
 -- The place of the pixel, where the edge goes eastward.
-place : (c : tie.Then1) → let a = c .before .args in EastPlace (a .side) (a .r) (a .map .now) (a .x) (a .y) (a .d)
+place : (c : tie.Then1) → let a = c .before .args in MarkPlace 0 (a .side) (a .r) (a .map .now) (a .x) (a .y) (a .d) (a .x) (a .y)
 place c = east-place (c .before .pre) (c .if1 .taken)
 
 mul-i : tie.Need-mul-i
@@ -35,7 +35,7 @@ returns : tie.Need-returns
 returns c = sym (place c .after)
 
 returns-2 : tie.Need-returns-2
-returns-2 c = sym (no-mark (c .before .pre) (c .if1 .left))
+returns-2 c = sym (no-mark (c .before .pre) 0 (c .if1 .left))
 
 pub mark-east-spec : {M : Type 1} → statement M
 mark-east-spec =

@@ -2,8 +2,8 @@
 -- The measure: the units that are left in the image in this direction.
 use native.Mathlib.Omega.{arith}
 use Rattle.steps.specs.Rule.{Way, unitsAhead}
-use Rattle.cycles.specs.Points.{way-at}
-use Rattle.cycles.specs.Straight.{Onward, onward-from, square-then, moved-here, OneFurther, one-further}
+use Rattle.cycles.specs.Points.{way-at, moved-on, square-then}
+use Rattle.cycles.specs.Straight.{Onward, onward-from, OneFurther, one-further}
 use Rattle.cycles.proofs.straight.Statement.{statement}
 use Rattle.cycles.proofs.straight.Tie as tie
 
@@ -39,8 +39,8 @@ next-digit-requires : tie.Need-next-digit-requires Inv-loop μ-loop
 next-digit-requires c κs =
     let m = marks-made c in
     let l = head m .loop .inv in
-    let k = moved-here l (m .mark-east .ensures) (c .before .before .next-x .ensures) (c .before .next-y .ensures) in
-    (square-then l (m .mark-east .ensures), omega (arith, k .x-low), omega (arith, k .y-low), l .at .low)
+    let k = moved-on (l .at) (c .before .before .next-x .ensures) (c .before .next-y .ensures) in
+    (square-then (l .at) 0 (m .mark-east .ensures), omega (arith, k .x-low), omega (arith, k .y-low), l .at .low)
 
 -- What a turn of the loop leads to, before the test.
 turn-done : (c : tie.After-next-digit Inv-loop μ-loop) →

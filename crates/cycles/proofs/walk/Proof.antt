@@ -12,7 +12,8 @@ use Rattle.steps.specs.Rule.{Way}
 use Rattle.cycles.specs.Points.{EdgeAt, way-at}
 use Rattle.sequences.specs.SignedBits.{fits, read-back}
 use Rattle.cycles.specs.Areas.{areaBound, leg-size}
-use Rattle.cycles.specs.Walking.{CornerDue, leftAfter, withLeg, due-at-start, start-low, due-room, due-at, OneCornerMore, one-corner-more, ColumnDue, row-done}
+use Rattle.cycles.specs.Rounds.{leftAfter}
+use Rattle.cycles.specs.Walking.{CornerDue, withLeg, due-at-start, start-low, due-room, due-at, OneCornerMore, one-corner-more, ColumnDue, row-done}
 use borrow.Author.Needs.{needs}
 use Rattle.cycles.proofs.walk.Statement.{statement}
 use Rattle.cycles.proofs.walk.Tie as tie

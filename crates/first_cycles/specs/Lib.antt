@@ -1,0 +1,2 @@
+-- The walk along one cycle that marks its westward edges.
+pub mod Walking

@@ -1,0 +1,76 @@
+-- What the promise says where a caller stands: the order given is right, and no right order is smaller.
+use mathlib.Core.Path.{_≡_, refl, sym, ap, _∙_, subst}
+use mathlib.Core.List.{List}
+use Prim.Native.Nat.{ℕ, _*_, _^_, _≤_, _<_}
+use native.Mathlib.Omega.{arith}
+use lib.ListN.{length, getD, take, replicate}
+use Rattle.sequences.specs.Cases.{ifAccepted, written-accepted, written-refused, count-accepted}
+use Rattle.sequences.specs.Over.{over, over-none, over-beyond}
+use Rattle.answers.specs.declared.Written.{Written}
+use Rattle.answers.specs.Answers.{Wrote, accepted-writes}
+use Rattle.quadtree.specs.Blocks.{blocks, paint}
+use Rattle.quadtree.specs.Number.{number}
+use Rattle.quadtree.specs.Accepted.{number-zero}
+use Rattle.components.specs.Numbers.{numbers, labels, regions}
+use Rattle.regions.specs.Promise.{numberingNumber, labelsWritten, zerosWritten, regionsCounted, Numbering, none, numbered}
+use Rattle.forests.specs.Least.{LeastOf}
+use Rattle.surrounding.specs.CuttingOrders.{InsideOut, RightOrder, cuttingOrder, cutting-order-is-least}
+use Rattle.least_order.specs.Promise.{orderingNumber, LeastOrdering, same-number}
+
+module _ {n : ℕ} {cs ls ks labels₀ work₀ order₀ labels₁ work₁ order₁ : List ℕ} {r : Written}
+    (p : LeastOrdering n cs ls ks labels₀ work₀ order₀ labels₁ work₁ order₁ r) where
+  abbrev px : List ℕ
+  px = paint (blocks cs ls ks)
+
+  abbrev number-then : ℕ
+  number-then = orderingNumber n cs ls ks labels₀ work₀ order₀
+
+  -- "A refusal .. returns that number with every other part zero and leaves all lists" (document 01).
+  pub refusal-leaves-all : 0 < r .number → (r .count ≡ 0) × (labels₁ ≡ labels₀) × (work₁ ≡ work₀) × (order₁ ≡ order₀)
+  refusal-leaves-all h =
+      let some : 0 < number-then = omega (arith, p .in-order .number-is) in
+      let nothing : ifAccepted number-then (cuttingOrder n px) ≡ _ = written-refused number-then (cuttingOrder n px) some in (
+        p .in-order .count-is ∙ ap length nothing,
+        p .in-labels ∙ ap (λ (l : List ℕ). over l labels₀) (written-refused number-then (labels n (blocks cs ls ks)) some) ∙ over-none labels₀,
+        p .in-work ∙ ap (λ (l : List ℕ). over l work₀) (written-refused number-then (replicate (2 * 4 ^ n) 0) some) ∙ over-none work₀,
+        p .in-order .list ∙ ap (λ (l : List ℕ). over l order₀) nothing ∙ over-none order₀,
+      )
+
+  -- An accepted list, and lists that are long enough.
+  module _ (accepted : number n cs ls ks ≡ 0) (one-a-block : length cs ≤ length labels₀) (room : 2 * 4 ^ n ≤ length work₀)
+      (order-room : length cs ≤ length order₀) where
+    small : n ≤ 8
+    small = number-zero n cs ls ks accepted .small
+
+    none-then : number-then ≡ 0
+    none-then = same-number n cs ls ks labels₀ work₀ order₀ order-room ∙ none n cs ls ks labels₀ work₀ accepted one-a-block room
+
+    wrote : Wrote (cuttingOrder n px) order₀ order₁ r
+    wrote = accepted-writes number-then (cuttingOrder n px) order₀ order₁ r (p .in-order) none-then
+
+    pub not-refused : r .number ≡ 0
+    not-refused = wrote .accepted
+
+    -- "filled up to the number of regions".
+    pub count-is-regions : r .count ≡ regions n (paint (blocks cs ls ks))
+    count-is-regions = wrote .count-is ∙ cutting-order-is-least n px small .each .long
+
+    pub order-beyond-kept : (i : ℕ) → r .count ≤ i → getD order₁ i 0 ≡ getD order₀ i 0
+    order-beyond-kept i h = ap (λ (l : List ℕ). getD l i 0) (wrote .list) ∙ over-beyond (cuttingOrder n px) order₀ i (omega (arith, wrote .count-is))
+
+    -- "Of all such orders for an accepted list, also give the one with the least possible number at the first place, then at the second, and
+    -- so on": the entries up to the count are every region once, from the inside out, and at the first place where another such order
+    -- differs from them it has the larger number.
+    pub order-is-least : LeastOf (regions n (paint (blocks cs ls ks))) (InsideOut n (numbers n (paint (blocks cs ls ks)))) (take (r .count) order₁)
+    order-is-least = subst (LeastOf (regions n px) (InsideOut n (numbers n px))) (sym (wrote .up-to-count)) (cutting-order-is-least n px small)
+
+    pub order-is-right : RightOrder n (paint (blocks cs ls ks)) (take (r .count) order₁)
+    order-is-right = record { each = order-is-least .each; inside-out = order-is-least .allowed }
+
+    -- The label list and the work list at exit are those that the numbering leaves, and the count is its count.
+    pub lists-as-numbered : Numbering n cs ls ks labels₀ work₀ labels₁ work₁ (record { number = 0; regions = r .count })
+    lists-as-numbered =
+        numbered n cs ls ks labels₀ work₀ accepted one-a-block room
+        (p .in-labels ∙ ap (λ (l : List ℕ). over l labels₀) (written-accepted number-then (labels n (blocks cs ls ks)) none-then))
+        (p .in-work ∙ ap (λ (l : List ℕ). over l work₀) (written-accepted number-then (replicate (2 * 4 ^ n) 0) none-then))
+        count-is-regions

@@ -1,0 +1,112 @@
+-- What the promise says where a caller stands: when each number is answered, by the definitions on pixels, and that the lists at exit are
+-- those that the numbering leaves.
+use mathlib.Core.Path.{_≡_, refl, sym, ap, _∙_, subst}
+use mathlib.Core.Logic.{_≢_, _⊎_, inl, inr, _↔_}
+use mathlib.Core.Bool.{Bool, true, false, false≢true, true≢false}
+use mathlib.Core.List.{List}
+use Prim.Native.Nat.{ℕ, zero, suc, _*_, _^_, _≤_, _<_}
+use native.Mathlib.Omega.{arith}
+use lib.ListN.{length}
+use Rattle.sequences.specs.Cases.{first-none}
+use Rattle.quadtree.specs.Blocks.{blocks, paint}
+use Rattle.quadtree.specs.Number.{number}
+use Rattle.quadtree.specs.Accepted.{number-zero}
+use Rattle.components.specs.Numbers.{numbers, regions}
+use Rattle.regions.specs.Promise.{numberingNumber, regionsCounted, Numbering, none}
+use Rattle.regions.specs.declared.Numbered.{Numbered}
+use Rattle.forests.specs.Orders.{EachOnce}
+use Rattle.forests.specs.Checking.{isEachOnce, each-once-says}
+use Rattle.surrounding.specs.CuttingOrders.{isInsideOut, RightOrder, StandsBefore, tests-say-right, standing-before}
+use Rattle.order_check.specs.Promise.{faultOfOrder, orderNumber, OrderCheck, not-each-once, not-inside-out, right}
+
+-- The three answers about an order of the regions of an image.
+pub data Verdict (n : ℕ) (px order : List ℕ) : ℕ → Type 0 where
+  yes-right : RightOrder n px order → Verdict n px order 0
+  not-every-region-once : (EachOnce (regions n px) order → ⊥) → Verdict n px order 19
+  one-before-what-it-surrounds : EachOnce (regions n px) order → StandsBefore n (numbers n px) order → Verdict n px order 20
+
+module _ (n : ℕ) (px order : List ℕ) (small : n ≤ 8) where
+  verdict : Verdict n px order (faultOfOrder n px order)
+  verdict = pick (isEachOnce (regions n px) order) (isInsideOut n px order) refl refl
+    where
+      pick : (a b : Bool) → isEachOnce (regions n px) order ≡ a → isInsideOut n px order ≡ b → Verdict n px order (faultOfOrder n px order)
+      pick false b e f =
+          subst (Verdict n px order) (sym (not-each-once n px order e))
+          (not-every-region-once (λ o. true≢false (sym (each-once-says (regions n px) order .1 o) ∙ e)))
+      pick true false e f =
+          let once : EachOnce (regions n px) order = each-once-says (regions n px) order .0 e in
+          subst (Verdict n px order) (sym (not-inside-out n px order e f)) (one-before-what-it-surrounds once (standing-before n px small order once .0 f))
+      pick true true e f = subst (Verdict n px order) (sym (right n px order e f)) (yes-right (tests-say-right n px small order .0 (e, f)))
+
+  -- The answer is the verdict's number: the verdicts exclude one another.
+  zero-says : {k : ℕ} → Verdict n px order k → k ≡ 0 → RightOrder n px order
+  zero-says (yes-right o) e = o
+  zero-says (not-every-region-once o) e = absurd (omega arith)
+  zero-says (one-before-what-it-surrounds o b) e = absurd (omega arith)
+
+  nineteen-says : {k : ℕ} → Verdict n px order k → k ≡ 19 → EachOnce (regions n px) order → ⊥
+  nineteen-says (yes-right o) e = absurd (omega arith)
+  nineteen-says (not-every-region-once o) e = o
+  nineteen-says (one-before-what-it-surrounds o b) e = absurd (omega arith)
+
+  twenty-says : {k : ℕ} → Verdict n px order k → k ≡ 20 → EachOnce (regions n px) order × StandsBefore n (numbers n px) order
+  twenty-says (yes-right o) e = absurd (omega arith)
+  twenty-says (not-every-region-once o) e = absurd (omega arith)
+  twenty-says (one-before-what-it-surrounds o b) e = (o, b)
+
+module _ {n : ℕ} {cs ls ks order labels₀ work₀ labels₁ work₁ : List ℕ} {r : ℕ} (p : OrderCheck n cs ls ks order labels₀ work₀ labels₁ work₁ r) where
+  abbrev px : List ℕ
+  px = paint (blocks cs ls ks)
+
+  -- The lists at exit are those that the numbering leaves.
+  pub lists-as-numbered : Numbering n cs ls ks labels₀ work₀ labels₁ work₁
+      (record { number = numberingNumber n cs ls ks labels₀ work₀; regions = regionsCounted n cs ls ks labels₀ work₀ })
+  lists-as-numbered = record { answer = refl; in-labels = p .in-labels; in-work = p .in-work }
+
+  -- An accepted list, and lists that are long enough.
+  module _ (accepted : number n cs ls ks ≡ 0) (one-a-block : length cs ≤ length labels₀) (room : 2 * 4 ^ n ≤ length work₀) where
+    small : n ≤ 8
+    small = number-zero n cs ls ks accepted .small
+
+    judged : r ≡ faultOfOrder n px order
+    unfolding orderNumber
+    judged =
+        p .answer
+        ∙ first-none (numberingNumber n cs ls ks labels₀ work₀) (faultOfOrder n px order) (none n cs ls ks labels₀ work₀ accepted one-a-block room)
+
+    answer-is : Verdict n px order r
+    answer-is = subst (Verdict n px order) (sym judged) (verdict n px order small)
+
+    -- "say yes exactly when each surrounded region comes before each region that surrounds it".
+    pub yes-exactly-when-right : (r ≡ 0) ↔ RightOrder n (paint (blocks cs ls ks)) order
+    yes-exactly-when-right = (
+      zero-says n px order small answer-is,
+      λ o. let t = tests-say-right n px small order .1 o in judged ∙ right n px order (t .0) (t .1),
+    )
+
+    -- "19 (the given order is not every region once)".
+    pub nineteen-exactly-when-not-every-region-once : (r ≡ 19) ↔ (EachOnce (regions n (paint (blocks cs ls ks))) order → ⊥)
+    nineteen-exactly-when-not-every-region-once = (
+      nineteen-says n px order small answer-is,
+      λ o. judged ∙ not-each-once n px order (pick o (isEachOnce (regions n px) order) refl),
+    )
+      where
+        pick : (EachOnce (regions n px) order → ⊥) → (t : Bool) → isEachOnce (regions n px) order ≡ t → isEachOnce (regions n px) order ≡ false
+        pick o false e = e
+        pick o true e = absurd (o (each-once-says (regions n px) order .0 e))
+
+    -- "20 (a region stands before one it surrounds)".
+    pub twenty-exactly-when-one-stands-before : (r ≡ 20) ↔ (EachOnce (regions n (paint (blocks cs ls ks))) order × StandsBefore n (numbers n (paint (blocks cs ls ks))) order)
+    twenty-exactly-when-one-stands-before = (
+      twenty-says n px order small answer-is,
+      λ o. judged ∙ not-inside-out n px order (each-once-says (regions n px) order .1 (o .0)) (standing-before n px small order (o .0) .1 (o .1)),
+    )
+
+    -- There is no other answer.
+    pub zero-nineteen-or-twenty : (r ≡ 0) ⊎ ((r ≡ 19) ⊎ (r ≡ 20))
+    zero-nineteen-or-twenty = pick answer-is
+      where
+        pick : {k : ℕ} → Verdict n px order k → (k ≡ 0) ⊎ ((k ≡ 19) ⊎ (k ≡ 20))
+        pick (yes-right o) = inl refl
+        pick (not-every-region-once o) = inr (inl refl)
+        pick (one-before-what-it-surrounds o b) = inr (inr refl)
