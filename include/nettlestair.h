@@ -1,8 +1,8 @@
 /* The functions of libexports.a. A lent list passes as a pointer, which is not null, and its length in entries; a list that is
    written to overlaps no other list of the call. Each function answers the numbers of documents 01 and 02 for bad input of any
    kind, touches nothing outside the lists that it is lent, and comes to its end. A refusal is its number with every count 0, and
-   leaves all lists as they were; acceptance is number 0. A list that is shorter than its need is 8; a longer one is welcome, and
-   its entries after those that are written stay as they were. */
+   leaves all lists as they were, but for labels and work list with 19 and 20; acceptance is number 0. A list that is shorter than
+   its need is 8; a longer one is welcome, and its entries after those that are written stay as they were. */
 #ifndef NETTLESTAIR_H
 #define NETTLESTAIR_H
 
@@ -103,6 +103,22 @@ struct nettlestair_written nettlestair_touch_up(uint32_t n, const uint32_t *code
 struct nettlestair_numbered nettlestair_number(uint32_t n, const uint32_t *codes, size_t codes_len, const uint8_t *levels,
                                                size_t levels_len, const uint16_t *colours, size_t colours_len,
                                                uint32_t *labels, size_t labels_len, uint32_t *work, size_t work_len);
+
+/* Judges an order of region numbers in which areas are cut from the inside out: 0 where each surrounded region comes before each region
+   that surrounds it, or 1 to 8, 19 where the order is not every region once, 20 where a region stands before one it surrounds. A region
+   surrounds another if no path from the other through pixels outside it, with diagonal steps allowed, reaches a pixel at the image's
+   edge. The order is only read. Labels and work list are as for nettlestair_number, and are written with 19 and 20 too. */
+uint32_t nettlestair_check_order(uint32_t n, const uint32_t *codes, size_t codes_len, const uint8_t *levels, size_t levels_len,
+                                 const uint16_t *colours, size_t colours_len, const uint32_t *order, size_t order_len,
+                                 uint32_t *labels, size_t labels_len, uint32_t *work, size_t work_len);
+
+/* Of all orders that nettlestair_check_order answers 0 to, the one with the least number at the first place, then at the second, and so
+   on, and how many regions it has: 0, or 1 to 8. Labels and work list are as for nettlestair_number. The order has room for one entry a
+   block, and is filled up to the number of regions. */
+struct nettlestair_written nettlestair_least_order(uint32_t n, const uint32_t *codes, size_t codes_len, const uint8_t *levels,
+                                                   size_t levels_len, const uint16_t *colours, size_t colours_len,
+                                                   uint32_t *labels, size_t labels_len, uint32_t *work, size_t work_len,
+                                                   uint32_t *order, size_t order_len);
 
 /* The outlines of all regions: 0, or 1 to 8. Labels and work list are as for nettlestair_number. For each cycle the owners hold
    its region, the ends the index after its last corner and the areas its signed area; the corners, y times 512 plus x each, stand

@@ -2,8 +2,8 @@
 //! module and link `target/staticlib/libexports.a` (`rt staticlib exports`); `examples/trace.rs` shows how.
 //!
 //! Each function answers the numbers of documents 01 and 02 for bad input of any kind; acceptance is number 0. A refusal is its
-//! number with every count 0, and leaves all lists as they were. A lent list that is shorter than its need is 8; a longer one is
-//! welcome, and its entries after those that are written stay as they were.
+//! number with every count 0, and leaves all lists as they were, but for labels and work list with 19 and 20. A lent list that is
+//! shorter than its need is 8; a longer one is welcome, and its entries after those that are written stay as they were.
 
 #![allow(dead_code)]
 
@@ -165,6 +165,38 @@ extern "C" {
         work: *mut u32,
         work_len: usize,
     ) -> Numbered;
+
+    fn nettlestair_check_order(
+        n: u32,
+        codes: *const u32,
+        codes_len: usize,
+        levels: *const u8,
+        levels_len: usize,
+        colours: *const u16,
+        colours_len: usize,
+        order: *const u32,
+        order_len: usize,
+        labels: *mut u32,
+        labels_len: usize,
+        work: *mut u32,
+        work_len: usize,
+    ) -> u32;
+
+    fn nettlestair_least_order(
+        n: u32,
+        codes: *const u32,
+        codes_len: usize,
+        levels: *const u8,
+        levels_len: usize,
+        colours: *const u16,
+        colours_len: usize,
+        labels: *mut u32,
+        labels_len: usize,
+        work: *mut u32,
+        work_len: usize,
+        order: *mut u32,
+        order_len: usize,
+    ) -> Written;
 
     fn nettlestair_trace(
         n: u32,
@@ -382,6 +414,69 @@ pub fn number(n: u32, codes: &[u32], levels: &[u8], colours: &[u16], labels: &mu
             labels.len(),
             work.as_mut_ptr(),
             work.len(),
+        )
+    }
+}
+
+/// Judges an order of region numbers in which areas are cut from the inside out: 0 where each surrounded region comes before each region
+/// that surrounds it, or 1 to 8, 19 where the order is not every region once, 20 where a region stands before one it surrounds. A region
+/// surrounds another if no path from the other through pixels outside it, with diagonal steps allowed, reaches a pixel at the image's
+/// edge. Labels and work list are as for `number`, and are written with 19 and 20 too.
+pub fn check_order(
+    n: u32,
+    codes: &[u32],
+    levels: &[u8],
+    colours: &[u16],
+    order: &[u32],
+    labels: &mut [u32],
+    work: &mut [u32],
+) -> u32 {
+    unsafe {
+        nettlestair_check_order(
+            n,
+            codes.as_ptr(),
+            codes.len(),
+            levels.as_ptr(),
+            levels.len(),
+            colours.as_ptr(),
+            colours.len(),
+            order.as_ptr(),
+            order.len(),
+            labels.as_mut_ptr(),
+            labels.len(),
+            work.as_mut_ptr(),
+            work.len(),
+        )
+    }
+}
+
+/// Of all orders that `check_order` answers 0 to, the one with the least number at the first place, then at the second, and so on, and
+/// how many regions it has: 0, or 1 to 8. Labels and work list are as for `number`. The order has room for one entry a block, and is
+/// filled up to the number of regions.
+pub fn least_order(
+    n: u32,
+    codes: &[u32],
+    levels: &[u8],
+    colours: &[u16],
+    labels: &mut [u32],
+    work: &mut [u32],
+    order: &mut [u32],
+) -> Written {
+    unsafe {
+        nettlestair_least_order(
+            n,
+            codes.as_ptr(),
+            codes.len(),
+            levels.as_ptr(),
+            levels.len(),
+            colours.as_ptr(),
+            colours.len(),
+            labels.as_mut_ptr(),
+            labels.len(),
+            work.as_mut_ptr(),
+            work.len(),
+            order.as_mut_ptr(),
+            order.len(),
         )
     }
 }

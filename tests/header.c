@@ -153,7 +153,55 @@ int main(void) {
     d = nettlestair_number(2, codes, 7, levels, 7, colours, 7, labels, 6, work, 33);
     expect("numbers, too short", d.number == 8 && d.regions == 0);
 
-    const uint32_t regions[3] = {0, 1, 2}, after[3] = {10, 14, 18};
+    /* orders of figure 5(b), where a diagonal step leads out of A: each order is right, and the least one rises */
+    const uint32_t regions[3] = {0, 1, 2}, others[3] = {2, 0, 1}, again[4] = {2, 0, 2, 1};
+    struct {
+        uint32_t labels[17], work[33], order[17];
+    } cut, before_too_short;
+    memset(&cut, 99, sizeof cut);
+    w = nettlestair_least_order(2, codes, 7, levels, 7, colours, 7, cut.labels, 8, cut.work, 33, cut.order, 7);
+    expect("least order, answer", w.number == 0 && w.count == 3);
+    expect("least order, order", !memcmp(cut.order, regions, sizeof regions) && LEFT(cut.order, 3));
+    expect("least order, labels", !memcmp(cut.labels, numbers, sizeof numbers) && LEFT(cut.labels, 7));
+    expect("least order, work", !memcmp(cut.work, zeros, sizeof zeros) && LEFT(cut.work, 32));
+    memset(&cut, 99, sizeof cut);
+    expect("check of an order", nettlestair_check_order(2, codes, 7, levels, 7, colours, 7, others, 3, cut.labels, 8, cut.work, 33) == 0);
+    expect("check of an order, labels", !memcmp(cut.labels, numbers, sizeof numbers) && LEFT(cut.labels, 7));
+    expect("check of an order, work", !memcmp(cut.work, zeros, sizeof zeros) && LEFT(cut.work, 32));
+
+    /* figure 5(a), where A surrounds B: 19 and 20 write labels and work list too, 19 comes first, and 8 writes nothing */
+    const uint32_t places[16] = {0, 1, 2, 3, 4, 5, 6, 7, 8, 9, 10, 11, 12, 13, 14, 15};
+    const uint8_t zero[16] = {0};
+    const uint16_t middle[16] = {1, 1, 1, 2, 1, 1, 2, 1, 1, 2, 1, 1, 2, 1, 1, 1};
+    const uint32_t in_the_middle[16] = {0, 0, 0, 1, 0, 0, 1, 0, 0, 1, 0, 0, 1, 0, 0, 0}, inside_out[2] = {1, 0}, outside_in[3] = {0, 1, 1};
+    const struct {
+        const uint32_t *order;
+        size_t length;
+        uint32_t number;
+    } orders[5] = {{inside_out, 2, 0}, {outside_in, 2, 20}, {outside_in, 3, 19}, {inside_out, 1, 19}, {again, 4, 19}};
+    for (int i = 0; i < 5; i++) {
+        memset(&cut, 99, sizeof cut);
+        uint32_t number = nettlestair_check_order(2, places, 16, zero, 16, middle, 16, orders[i].order, orders[i].length, cut.labels,
+                                                  17, cut.work, 33);
+        expect("check of an order, number", number == orders[i].number);
+        expect("check of an order, labels of the two", !memcmp(cut.labels, in_the_middle, sizeof in_the_middle) && LEFT(cut.labels, 16));
+        expect("check of an order, work of the two", !memcmp(cut.work, zeros, sizeof zeros) && LEFT(cut.work, 32));
+    }
+    w = nettlestair_least_order(2, places, 16, zero, 16, middle, 16, cut.labels, 16, cut.work, 32, cut.order, 17);
+    expect("least order of the two", w.number == 0 && w.count == 2 && !memcmp(cut.order, inside_out, sizeof inside_out));
+    memset(&cut, 99, sizeof cut);
+    before_too_short = cut;
+    w = nettlestair_least_order(2, places, 16, zero, 16, middle, 16, cut.labels, 16, cut.work, 32, cut.order, 15);
+    expect("least order, order too short", w.number == 8 && w.count == 0);
+    expect("check of an order, labels too short",
+           nettlestair_check_order(2, places, 16, zero, 16, middle, 16, outside_in, 2, cut.labels, 15, cut.work, 32) == 8);
+    expect("check of an order, work too short",
+           nettlestair_check_order(2, places, 16, zero, 16, middle, 16, outside_in, 3, cut.labels, 16, cut.work, 31) == 8);
+    expect("check of an order, a faulty list",
+           nettlestair_check_order(2, places, 16, zero, 15, middle, 16, outside_in, 3, cut.labels, 16, cut.work, 31) == 2);
+    expect("orders, refusals", !memcmp(&cut, &before_too_short, sizeof cut));
+
+    const uint32_t after[3] = {10, 14, 18};
     const uint32_t points[18] = {0,    4,   1028, 1026, 514,  513,  1025, 1026, 2050, 2048,
                                  513, 514, 1026, 1025, 1026, 1028, 2052, 2050};
     const int32_t enclosed[3] = {11, 1, 4};
@@ -184,9 +232,6 @@ int main(void) {
     expect("outlines, refusals", !memcmp(&lent, &before_refusals, sizeof lent));
 
     /* figure 5(a): the area of the hole is below zero */
-    const uint32_t places[16] = {0, 1, 2, 3, 4, 5, 6, 7, 8, 9, 10, 11, 12, 13, 14, 15};
-    const uint8_t zero[16] = {0};
-    const uint16_t middle[16] = {1, 1, 1, 2, 1, 1, 2, 1, 1, 2, 1, 1, 2, 1, 1, 1};
     const int32_t with_hole[3] = {16, -4, 4};
     memset(&lent, 99, sizeof lent);
     t = nettlestair_trace(2, places, 16, zero, 16, middle, 16, lent.labels, 17, lent.work, 33, lent.owners, 16, lent.ends, 16,

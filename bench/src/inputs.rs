@@ -7,12 +7,13 @@ use crate::timing::{compare, Times};
 use std::cell::RefCell;
 use std::hint::black_box;
 
-/// A raster with its block list.
+/// A raster with its block list and the least order of its regions.
 struct Input {
     raster: Vec<u16>,
     codes: Vec<u32>,
     levels: Vec<u8>,
     colours: Vec<u16>,
+    order: Vec<u32>,
 }
 
 impl Input {
@@ -25,7 +26,10 @@ impl Input {
         codes.truncate(written.count as usize);
         levels.truncate(written.count as usize);
         colours.truncate(written.count as usize);
-        Input { raster, codes, levels, colours }
+        let mut input = Input { raster, codes, levels, colours, order: vec![] };
+        let (written, _, order) = input.least_order(n, &PLAIN);
+        input.order = order[..written.count as usize].to_vec();
+        input
     }
 
     fn blocks(&self) -> Blocks<'_> {
@@ -40,6 +44,27 @@ impl Input {
         let number = (side.number)(n, self.blocks(), &mut numbered.labels, &mut numbered.work);
         let trace = (side.trace)(n, self.blocks(), traced.lend());
         (check, number, trace, numbered, traced)
+    }
+
+    /// The least order on fresh lists: the answer and every entry of the lists.
+    fn least_order(&self, n: u32, side: &Side) -> (Written, Lists, Vec<u32>) {
+        let mut lists = Lists::new(n, self.codes.len());
+        let mut order = vec![9; self.codes.len()];
+        let written = (side.least_order)(n, self.blocks(), &mut lists.labels, &mut lists.work, &mut order);
+        (written, lists, order)
+    }
+
+    /// The number of an order on fresh lists, and every entry of the lists.
+    fn check_order(&self, n: u32, side: &Side, order: &[u32]) -> (u32, Lists) {
+        let mut lists = Lists::new(n, self.codes.len());
+        ((side.check_order)(n, self.blocks(), order, &mut lists.labels, &mut lists.work), lists)
+    }
+
+    /// The least order, and what is answered to it, to rising numbers and to an order that lacks a region.
+    fn cutting(&self, n: u32, side: &Side) -> impl PartialEq {
+        let rising: Vec<u32> = (0..self.order.len() as u32).collect();
+        let numbers = [&self.order[..], &rising, &rising[1..]].map(|order| self.check_order(n, side, order));
+        (self.least_order(n, side), numbers)
     }
 
     /// The answers of both conversions on fresh lists, and every entry of the lists.
@@ -82,6 +107,15 @@ impl Inputs {
         self.inputs.iter().all(|input| input.outlines(self.n, &LIBRARY) == input.outlines(self.n, &PLAIN))
     }
 
+    /// The regions of the first picture.
+    pub fn regions(&self) -> usize {
+        self.inputs[0].order.len()
+    }
+
+    pub fn equal_cutting(&self) -> bool {
+        self.inputs.iter().all(|input| input.cutting(self.n, &LIBRARY) == input.cutting(self.n, &PLAIN))
+    }
+
     pub fn equal_rasters(&self) -> bool {
         self.inputs.iter().all(|input| input.rasters(self.n, &LIBRARY) == input.rasters(self.n, &PLAIN))
     }
@@ -118,6 +152,23 @@ impl Inputs {
         let mut lists = self.lists();
         self.time(|side, input| {
             black_box((side.trace)(self.n, input.blocks(), lists.lend()));
+        })
+    }
+
+    pub fn time_least_order(&self) -> Times {
+        let mut lists = self.lists();
+        let mut order = vec![0; 1 << (2 * self.n)];
+        self.time(|side, input| {
+            black_box((side.least_order)(self.n, input.blocks(), &mut lists.labels, &mut lists.work, &mut order));
+        })
+    }
+
+    /// The order that is judged is the least one.
+    pub fn time_check_order(&self) -> Times {
+        let mut lists = self.lists();
+        self.time(|side, input| {
+            let Lists { labels, work, .. } = &mut lists;
+            black_box((side.check_order)(self.n, input.blocks(), &input.order, labels, work));
         })
     }
 

@@ -26,6 +26,7 @@ Times the proved library (target/staticlib/libexports.a) against a plain Rust im
   orders     to_block_order and from_block_order at n = 6 and n = 8
   overlay    one picture laid over another at n = 8
   touch-up   single pixels of a picture touched up at n = 8
+  cutting    least_order and check_order at n = 8, and how the time of least_order grows from n = 4 to n = 8
   codes      a code for each pixel of 256 by 256
   all        all of these (without MODE)
 
@@ -40,8 +41,17 @@ fn main() -> ExitCode {
         "orders" => &[report::orders],
         "overlay" => &[report::overlay],
         "touch-up" => &[report::touch_up],
+        "cutting" => &[report::cutting],
         "codes" => &[report::codes],
-        "all" => &[report::outlines, report::rasters, report::orders, report::overlay, report::touch_up, report::codes],
+        "all" => &[
+            report::outlines,
+            report::rasters,
+            report::orders,
+            report::overlay,
+            report::touch_up,
+            report::cutting,
+            report::codes,
+        ],
         "help" | "--help" | "-h" => {
             print!("{HELP}");
             return ExitCode::SUCCESS;

@@ -15,14 +15,16 @@ pub const NOISE_OF_256: Kind = Kind { name: "noise of 256 colours", raster: |n, 
 const ONE_COLOUR: Kind = Kind { name: "one colour", raster: |n, _| vec![7; 1 << (2 * n)] };
 const CLOCK_DIAL: Kind = Kind { name: "clock dial", raster: clock };
 const BLOBS: Kind = Kind { name: "blobs", raster: blobs };
+const RINGS: Kind = Kind { name: "rings", raster: rings };
+const SPIRAL: Kind = Kind { name: "spiral", raster: |n, _| spiral(n) };
 
 pub const KINDS: [Kind; 9] = [
     NOISE_OF_2,
     NOISE_OF_256,
     BLOBS,
-    Kind { name: "rings", raster: rings },
+    RINGS,
     Kind { name: "checkerboard", raster: |n, _| checkerboard(n) },
-    Kind { name: "spiral", raster: |n, _| spiral(n) },
+    SPIRAL,
     Kind { name: "comb", raster: |n, _| comb(n) },
     ONE_COLOUR,
     CLOCK_DIAL,
@@ -39,6 +41,19 @@ pub const PAIRS: [(&str, [Kind; 2]); 5] = [
 
 /// Pictures of which single pixels are touched up.
 pub const TOUCHED_UP: [Kind; 5] = [CLOCK_DIAL, BLOBS, NOISE_OF_2, NOISE_OF_256, ONE_COLOUR];
+
+/// Pictures that are cut from the inside out.
+pub const CUT: [Kind; 9] = [
+    CLOCK_DIAL,
+    BLOBS,
+    RINGS,
+    Kind { name: "nested squares", raster: |n, _| nested_squares(n) },
+    SPIRAL,
+    Kind { name: "islands", raster: |n, _| drawn(n, |x, y| (x & y & 1) as u16) },
+    NOISE_OF_2,
+    NOISE_OF_256,
+    ONE_COLOUR,
+];
 
 /// A colour that no picture has.
 pub const NEW_COLOUR: u16 = 256;
@@ -90,6 +105,12 @@ fn rings(n: u32, seed: u64) -> Vec<u16> {
         let (dx, dy) = (x.abs_diff(middle_x), y.abs_diff(middle_y));
         ((dx * dx + dy * dy).isqrt() / 2 % 2) as u16
     })
+}
+
+/// Rings one pixel wide along the edge and inward, each around all that follow, of two colours by turns.
+fn nested_squares(n: u32) -> Vec<u16> {
+    let last = (1 << n) - 1;
+    drawn(n, |x, y| (x.min(y).min(last - x).min(last - y) % 2) as u16)
 }
 
 /// A clock face at some time.

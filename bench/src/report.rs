@@ -1,7 +1,7 @@
 //! What is timed and how it is told.
 
 use crate::inputs::{Inputs, Pair, Specks};
-use crate::pictures::{self, KINDS, NOISE_OF_256, PAIRS, TOUCHED_UP};
+use crate::pictures::{self, CUT, KINDS, NOISE_OF_256, PAIRS, TOUCHED_UP};
 use crate::plain::spread_code;
 use crate::sides::{Side, LIBRARY, PLAIN};
 use crate::timing::{compare, Times, SAMPLES};
@@ -69,18 +69,20 @@ pub fn outlines() -> bool {
         equal &= same;
         traces.push((kind.name, times));
     }
-    growth(&traces);
+    growth("trace", &traces);
     equal
 }
 
-/// How the time of trace grows from n = 4 to n = 8: the factor of each level and the mean factor.
-fn growth(traces: &[(&str, Vec<Times>)]) {
-    println!("\nHow the time of trace grows with each level, n = 4 to n = 8; goal at most {GOAL_GROWTH} (*: above)");
+/// How the time of a function grows from n = 4 to n = 8: the factor of each level and the mean factor.
+fn growth(function: &str, rows: &[(&str, Vec<Times>)]) {
+    println!(
+        "\nHow the time of {function} grows with each level, n = 4 to n = 8; goal at most {GOAL_GROWTH} (*: above)"
+    );
     println!("At each n as many pictures as have 65,536 pixels in all; the time of one is the mean.");
     println!("{:<21}| {:^45} | {:^45}", "", "library", "plain");
     let levels: String = ["4 to 5", "5 to 6", "6 to 7", "7 to 8", "mean"].map(|level| format!("{level:>7}  ")).concat();
     println!("{:<21}| {levels} | {levels}", "");
-    for (name, times) in traces {
+    for (name, times) in rows {
         let library: Vec<f64> = times.iter().map(|times| times.library).collect();
         let plain: Vec<f64> = times.iter().map(|times| times.plain).collect();
         println!("{name:<21}| {} | {}", factors(&library), factors(&plain));
@@ -216,6 +218,34 @@ pub fn touch_up() -> bool {
         );
         equal &= same;
     }
+    equal
+}
+
+/// Orders for cutting from the inside out at n = 8, then how the time of the least order grows. Says whether all answers were equal.
+pub fn cutting() -> bool {
+    let mut equal = true;
+    let mut rows = Vec::new();
+    println!("\nn = 8, microseconds a picture (both run the check and the numbering; the order that is judged is the least one)");
+    println!("{:<28} {:>7} | {:^28} | {:^28} |", "", "", "least_order", "check_order");
+    println!("{:<21}{:>7} {:>7} | {HEADING} | {HEADING} | answers", "", "blocks", "regions");
+    for kind in &CUT {
+        let sizes: Vec<Inputs> = SIZES.map(|n| Inputs::new(kind, n)).collect();
+        let same = sizes.iter().all(Inputs::equal_cutting);
+        let times: Vec<Times> = sizes.iter().map(Inputs::time_least_order).collect();
+        let largest = &sizes[sizes.len() - 1];
+        println!(
+            "{:<21}{:>7} {:>7} | {} | {} | {}",
+            kind.name,
+            largest.blocks(),
+            largest.regions(),
+            columns(times[times.len() - 1]),
+            columns(largest.time_check_order()),
+            if same { "equal" } else { "DIFFERENT" }
+        );
+        equal &= same;
+        rows.push((kind.name, times));
+    }
+    growth("least_order", &rows);
     equal
 }
 

@@ -46,6 +46,8 @@ pub struct Side {
     pub code: fn(u16, u16) -> u32,
     pub check: fn(u32, Blocks) -> u32,
     pub number: fn(u32, Blocks, &mut [u32], &mut [u32]) -> Numbered,
+    pub check_order: fn(u32, Blocks, &[u32], &mut [u32], &mut [u32]) -> u32,
+    pub least_order: fn(u32, Blocks, &mut [u32], &mut [u32], &mut [u32]) -> Written,
     pub trace: fn(u32, Blocks, Lent) -> Traced,
     pub blocks_from_raster: fn(u32, &[u16], &mut [u32], &mut [u8], &mut [u16]) -> Written,
     pub raster_from_blocks: fn(u32, Blocks, &mut [u16]) -> Written,
@@ -60,6 +62,12 @@ pub const LIBRARY: Side = Side {
     code: nettlestair::code,
     check: |n, blocks| nettlestair::check(n, blocks.codes, blocks.levels, blocks.colours),
     number: |n, blocks, labels, work| nettlestair::number(n, blocks.codes, blocks.levels, blocks.colours, labels, work),
+    check_order: |n, blocks, order, labels, work| {
+        nettlestair::check_order(n, blocks.codes, blocks.levels, blocks.colours, order, labels, work)
+    },
+    least_order: |n, blocks, labels, work, order| {
+        nettlestair::least_order(n, blocks.codes, blocks.levels, blocks.colours, labels, work, order)
+    },
     trace: |n, blocks, lent| {
         let Blocks { codes, levels, colours } = blocks;
         let Lent { labels, work, owners, ends, corners, areas } = lent;
@@ -85,6 +93,8 @@ pub const PLAIN: Side = Side {
     code: plain::code,
     check: plain::check,
     number: plain::number,
+    check_order: plain::check_order,
+    least_order: plain::least_order,
     trace: plain::trace,
     blocks_from_raster: plain::blocks_from_raster,
     raster_from_blocks: plain::raster_from_blocks,

@@ -197,18 +197,16 @@ impl PictureOut {
     }
 }
 
-/// The names of the unsigned lists that numbering (the first two) and tracing (all five) are lent.
-const NAMES: [&str; 5] = ["labels", "work", "owners", "ends", "corners"];
-
-/// A function over a block list, after a call: what it answered, and the lists of 32-bit numbers it was lent. Those of areas, which
-/// have a sign, stand apart.
+/// A function over a block list, after a call: what it answered, and the lists of 32-bit numbers it was lent, with their names. Those of
+/// areas, which have a sign, stand apart.
 pub struct Called<A, const LISTS: usize, const AREAS: usize> {
     pub answer: A,
+    names: [&'static str; LISTS],
     pub lists: [Lent<u32>; LISTS],
     pub areas: [Lent<i32>; AREAS],
 }
 
-/// What such a function should answer and write. It writes nothing where it refuses.
+/// What such a function should answer and write. It writes nothing where it refuses, but for labels and zeros with 19 and 20.
 pub struct Expected<A, const LISTS: usize, const AREAS: usize> {
     pub answer: A,
     pub lists: [Vec<u32>; LISTS],
@@ -218,7 +216,7 @@ pub struct Expected<A, const LISTS: usize, const AREAS: usize> {
 impl<A: Copy + PartialEq + Debug, const LISTS: usize, const AREAS: usize> Called<A, LISTS, AREAS> {
     /// What differs: the answer or an entry, also one that should be as it was.
     pub fn difference(&self, expected: &Expected<A, LISTS, AREAS>) -> Option<String> {
-        let mut lists = NAMES.iter().zip(&self.lists).zip(&expected.lists);
+        let mut lists = self.names.iter().zip(&self.lists).zip(&expected.lists);
         let mut areas = self.areas.iter().zip(&expected.areas);
         answer(expected.answer, self.answer)
             .or_else(|| {
@@ -231,6 +229,12 @@ impl<A: Copy + PartialEq + Debug, const LISTS: usize, const AREAS: usize> Called
 /// Numbering, after a call. It is lent no list of areas.
 pub type NumberOut = Called<Numbered, 2, 0>;
 
+/// The judging of an order, after a call.
+pub type CheckOrderOut = Called<u32, 2, 0>;
+
+/// The least order, after a call. The order is the third list.
+pub type LeastOrderOut = Called<Written, 3, 0>;
+
 /// Tracing, after a call. It is lent one list of areas.
 pub type TraceOut = Called<Traced, 5, 1>;
 
@@ -241,7 +245,29 @@ pub fn number(random: &mut Random, n: u32, blocks: &Blocks, lengths: [usize; 2])
     let answer = handed_in(blocks, |Blocks { codes, levels, colours }| {
         nettlestair::number(n, codes, levels, colours, labels, work)
     });
-    NumberOut { answer, lists, areas: [] }
+    NumberOut { answer, names: ["labels", "work"], lists, areas: [] }
+}
+
+/// The judging of an order, with a label list and a work list of the given lengths.
+pub fn check_order(random: &mut Random, n: u32, blocks: &Blocks, order: &[u32], lengths: [usize; 2]) -> CheckOrderOut {
+    let mut lists = lengths.map(|length| Lent::new(random, length));
+    let [labels, work] = lists.each_mut().map(Lent::lend);
+    let before = order.to_vec();
+    let answer = handed_in(blocks, |Blocks { codes, levels, colours }| {
+        nettlestair::check_order(n, codes, levels, colours, black_box(order), labels, work)
+    });
+    unchanged("order", &before, black_box(order));
+    CheckOrderOut { answer, names: ["labels", "work"], lists, areas: [] }
+}
+
+/// The least order, with label, work and order lists of the given lengths.
+pub fn least_order(random: &mut Random, n: u32, blocks: &Blocks, lengths: [usize; 3]) -> LeastOrderOut {
+    let mut lists = lengths.map(|length| Lent::new(random, length));
+    let [labels, work, order] = lists.each_mut().map(Lent::lend);
+    let answer = handed_in(blocks, |Blocks { codes, levels, colours }| {
+        nettlestair::least_order(n, codes, levels, colours, labels, work, order)
+    });
+    LeastOrderOut { answer, names: ["labels", "work", "order"], lists, areas: [] }
 }
 
 /// Tracing, with label, work, owner, end, corner and area lists of the given lengths.
@@ -253,7 +279,7 @@ pub fn trace(random: &mut Random, n: u32, blocks: &Blocks, lengths: [usize; 6]) 
     let answer = handed_in(blocks, |Blocks { codes, levels, colours }| {
         nettlestair::trace(n, codes, levels, colours, labels, work, owners, ends, corners, areas.lend())
     });
-    TraceOut { answer, lists, areas: [areas] }
+    TraceOut { answer, names: ["labels", "work", "owners", "ends", "corners"], lists, areas: [areas] }
 }
 
 /// Hands a block list to a function, which leaves it as it was.

@@ -16,6 +16,7 @@ pub mod model;
 #[path = "../../include/nettlestair.rs"]
 pub mod nettlestair;
 pub mod outlines;
+pub mod permutations;
 pub mod pictures;
 pub mod png;
 pub mod programs;

@@ -87,6 +87,44 @@ pub fn any(random: &mut Random, n: u32) -> Vec<u16> {
     }
 }
 
+/// Rectangles laid over one another, each anywhere or just inside the one before, filled or as frames one pixel wide, with some specks on
+/// top: regions that surround others, at times many deep, and walls with a gap somewhere.
+pub fn frames(random: &mut Random, n: u32) -> Vec<u16> {
+    let side = 1usize << n;
+    let count = 2 + random.below(4);
+    let colours = random.colours(count);
+    let mut raster = vec![colours[0]; side * side];
+    let mut ranges = [(0, side - 1); 2];
+    for _ in 0..1 + random.below(3 << (n / 2)) {
+        let anywhere = random.below(3) == 0;
+        ranges = ranges.map(|(low, high)| {
+            let (a, b) = (random.below(side), random.below(side));
+            match high - low {
+                4.. if !anywhere => (low + 1 + a % 2, high - 1 - b % 2),
+                _ => (a.min(b), a.max(b)),
+            }
+        });
+        let [(west, east), (north, south)] = ranges;
+        let (colour, filled) = (colours[random.below(count)], random.below(3) == 0);
+        for y in north..=south {
+            for x in west..=east {
+                if filled || x == west || x == east || y == north || y == south {
+                    raster[y * side + x] = colour;
+                }
+            }
+        }
+    }
+    for _ in 0..random.below(1 + side / 2) {
+        raster[random.below(side * side)] = colours[random.below(count)];
+    }
+    raster
+}
+
+/// Noise of two colours of which one has so many pixels in 16.
+pub fn sprinkled(random: &mut Random, n: u32, sixteenths: usize) -> Vec<u16> {
+    (0..1 << (2 * n)).map(|_| u16::from(random.below(16) < sixteenths)).collect()
+}
+
 /// A raster parted into several: each pixel keeps its colour in one of them, and has any colour up to it in the others. Laid over one
 /// another they give the raster again, however little of it each shows.
 pub fn parted<const PARTS: usize>(random: &mut Random, raster: &[u16]) -> [Vec<u16>; PARTS] {

@@ -1,11 +1,14 @@
-//! Causes 1 to 8 of block lists, and 21 of a pixel: each alone, each pair that can occur together, and their order, in one list and in
-//! two.
+//! Causes 1 to 8 of block lists, 19 and 20 of an order, and 21 of a pixel: each alone, each pair that can occur together, and their order,
+//! in one list and in two.
 
 use std::collections::BTreeSet;
-use tests::calls::{agrees, number as numbering, overlay, raster_from_blocks, touch_up, trace, BlocksOut};
+use tests::calls::{
+    agrees, check_order, least_order, number as numbering, overlay, raster_from_blocks, touch_up, trace, BlocksOut,
+};
 use tests::cases::Cases;
-use tests::expected::{needs, Model};
+use tests::expected::{needs, order_needs, Model};
 use tests::faults;
+use tests::figures::FIGURE_5A;
 use tests::model::blocks::{conditions, number, paint, quadtree, Blocks};
 use tests::model::overlay::overlay as overlaid;
 use tests::model::touching_up::{touch_up as touched_up, Speck};
@@ -13,9 +16,9 @@ use tests::nettlestair::check;
 use tests::random::Random;
 use tests::rasters;
 
-/// Holds the check, blocks to raster, numbering, tracing, the laying of one list over another and the touching up of pixels inside and
-/// outside to one number, with lists that are long enough and with shorter ones, for tracing also with the area list alone one too short:
-/// 21 and 8 are looked for after 1 to 7.
+/// Holds the check, blocks to raster, numbering, tracing, both functions of cutting orders, the laying of one list over another and the
+/// touching up of pixels inside and outside to one number, with lists that are long enough and with shorter ones, for tracing also with the
+/// area list alone one too short: 21, 8, 19 and 20 are looked for after 1 to 7.
 fn judged(what: &str, random: &mut Random, n: u32, blocks: &Blocks, expected: u32) {
     let Blocks { codes, levels, colours } = blocks;
     assert_eq!(check(n, codes, levels, colours), expected, "{what}: check of n = {n}, {blocks}");
@@ -51,6 +54,27 @@ fn judged(what: &str, random: &mut Random, n: u32, blocks: &Blocks, expected: u3
         let out = numbering(random, n, blocks, lengths);
         let difference = out.difference(&model.numbering(lengths));
         agrees(format_args!("{what}: numbers with lists of {lengths:?} from n = {n}, {blocks}"), difference);
+    }
+    // of larger images only what needs no flood for each pair of regions
+    let small = !(4..=8).contains(&n);
+    let orders: [&[u32]; 5] = [&[], &[0], &[1, 0], &[0, 1], &[u32::MAX]];
+    for lengths in [[labels, work], [labels, work - 1], [labels.max(1) - 1, work], [0, 0]] {
+        for order in orders.into_iter().filter(|order| small || order.is_empty()) {
+            let out = check_order(random, n, blocks, order, lengths);
+            let difference = out.difference(&model.judging(order, lengths));
+            agrees(
+                format_args!("{what}: order {order:?} with lists of {lengths:?} from n = {n}, {blocks}"),
+                difference,
+            );
+        }
+    }
+    let need = order_needs(n, blocks.len());
+    let [labels, work, order] = need;
+    let order_too_short = [labels, work, order.max(1) - 1];
+    for lengths in [need, order_too_short, [0; 3]].into_iter().skip(if small || expected != 0 { 0 } else { 1 }) {
+        let out = least_order(random, n, blocks, lengths);
+        let difference = out.difference(&model.least_order(lengths));
+        agrees(format_args!("{what}: least order with lists of {lengths:?} from n = {n}, {blocks}"), difference);
     }
     let need = needs(n, blocks.len());
     let [labels, work, owners, ends, corners, areas] = need;
@@ -314,6 +338,85 @@ fn causes_of_two_lists() {
     let numbers = [0, 2, 3, 4, 5, 6, 7];
     let pairs = numbers.into_iter().flat_map(|a| numbers.map(|b| (a, b)));
     assert_eq!(seen, pairs.flat_map(|(a, b)| [(a, b, 0), (a, b, 8)]).collect());
+    cases.end();
+}
+
+/// The list of figure 5(a), in which region 0 surrounds region 1, and the same with each cause 1 to 7 put into it, each with its n and its
+/// number.
+fn with_each_cause() -> Vec<(u32, Blocks, u32)> {
+    let accepted = quadtree(2, &FIGURE_5A);
+    let one_less = |blocks: &mut Blocks| {
+        blocks.codes.pop();
+        blocks.levels.pop();
+        blocks.colours.pop();
+    };
+    let with = |change: fn(&mut Blocks)| {
+        let mut blocks = accepted.clone();
+        change(&mut blocks);
+        blocks
+    };
+    vec![
+        (2, accepted.clone(), 0),
+        (9, accepted.clone(), 1),
+        (2, with(|blocks| blocks.levels.push(0)), 2),
+        (2, with(|blocks| blocks.levels[15] = 3), 3),
+        (2, with(|blocks| blocks.codes[15] = 14), 4),
+        (2, with(|blocks| blocks.levels[1] = 1), 5),
+        (2, with(one_less), 6),
+        (2, with(|blocks| blocks.colours[3] = 1), 7),
+    ]
+}
+
+/// Orders: each cause 1 to 7 before 8, which one list that is too short suffices for, that before 19, and that before 20.
+#[test]
+fn causes_of_orders() {
+    let mut cases = Cases::of("causes of orders");
+    let mut random = Random::of("causes of orders");
+    let orders: [(&[u32], u32); 13] = [
+        (&[1, 0], 0),
+        (&[0, 1], 20),
+        (&[], 19),
+        (&[0], 19),
+        (&[1], 19),
+        (&[0, 0], 19),
+        (&[1, 1], 19),
+        (&[1, 2], 19),
+        (&[1, u32::MAX], 19),
+        (&[1, 1 << 16], 19),
+        (&[1, 0, 0], 19),
+        // 19 and 20
+        (&[0, 1, 0], 19),
+        (&[0, 1, 2], 19),
+    ];
+    let mut seen = BTreeSet::new();
+    for (n, blocks, a) in with_each_cause() {
+        let model = Model::of(n, &blocks);
+        assert_eq!(model.number, a, "the model of n = {n}, {blocks}");
+        let need = order_needs(n, blocks.len());
+        for (short, b) in [([0, 0, 0], 0), ([1, 0, 0], 8), ([0, 1, 0], 8), ([1, 1, 0], 8), (need, 8)] {
+            let lengths = [0, 1, 2].map(|list| need[list] - short[list]);
+            for (order, c) in orders {
+                let number = [a, b, c].into_iter().find(|&number| number != 0).unwrap_or(0);
+                let out = check_order(&mut random, n, &blocks, order, [lengths[0], lengths[1]]);
+                assert_eq!(out.answer, number, "n = {n}, order {order:?} of {blocks}, lists of {lengths:?}");
+                let difference = out.difference(&model.judging(order, [lengths[0], lengths[1]]));
+                agrees(format_args!("n = {n}, order {order:?} of {blocks}, lists of {lengths:?}"), difference);
+                seen.insert((a, b, c));
+                cases.ran();
+            }
+            for (order_too_short, c) in [(0, 0), (1, 8)] {
+                let lengths = [lengths[0], lengths[1], lengths[2].max(1) - order_too_short];
+                let number = [a, b, c].into_iter().find(|&number| number != 0).unwrap_or(0);
+                let out = least_order(&mut random, n, &blocks, lengths);
+                assert_eq!(out.answer.number, number, "n = {n}, {blocks}, lists of {lengths:?}");
+                let difference = out.difference(&model.least_order(lengths));
+                agrees(format_args!("n = {n}, {blocks}, lists of {lengths:?}"), difference);
+                cases.ran();
+            }
+        }
+    }
+    let numbers = (0..=7).flat_map(|a| [0, 8].map(|b| (a, b)));
+    assert_eq!(seen, numbers.flat_map(|(a, b)| [0, 19, 20].map(|c| (a, b, c))).collect());
     cases.end();
 }
 

@@ -6,7 +6,7 @@ use std::time::{Duration, Instant};
 use tests::calls::{self, Out, PictureOut, Way, FROM_BLOCK_ORDER, TO_BLOCK_ORDER};
 use tests::cases::Cases;
 use tests::compare::Shown;
-use tests::expected::{needs, Model};
+use tests::expected::{needs, order_needs, Model};
 use tests::faults;
 use tests::lent::{Entry, GUARD};
 use tests::model::blocks::{location_code, number, paint, quadtree, Blocks};
@@ -26,7 +26,7 @@ use tests::rasters;
 type Try = fn(random: &mut Random, wrong: u32) -> (u32, Option<String>);
 
 /// Each function with the numbers that it can answer; a location code and the stretch of a cycle have none.
-const FUNCTIONS: [(&str, Try, &[u32]); 14] = [
+const FUNCTIONS: [(&str, Try, &[u32]); 16] = [
     ("fuzzing, codes", code, &[0]),
     ("fuzzing, check", check, &[0, 1, 2, 3, 4, 5, 6, 7]),
     ("fuzzing, raster to blocks", blocks_from_raster, &[0, 1, 8, 9]),
@@ -36,6 +36,8 @@ const FUNCTIONS: [(&str, Try, &[u32]); 14] = [
     ("fuzzing, one list over another", overlay, &[0, 1, 2, 3, 4, 5, 6, 7, 8]),
     ("fuzzing, one pixel touched up", touch_up, &[0, 1, 2, 3, 4, 5, 6, 7, 8, 21]),
     ("fuzzing, numbers", numbering, &[0, 1, 2, 3, 4, 5, 6, 7, 8]),
+    ("fuzzing, orders judged", check_order, &[0, 1, 2, 3, 4, 5, 6, 7, 8, 19, 20]),
+    ("fuzzing, least orders", least_order, &[0, 1, 2, 3, 4, 5, 6, 7, 8]),
     ("fuzzing, outlines", tracing, &[0, 1, 2, 3, 4, 5, 6, 7, 8]),
     ("fuzzing, stretches", cycle, &[0]),
     ("fuzzing, path data", svg, &[0, 8, 16]),
@@ -257,6 +259,66 @@ fn numbering(random: &mut Random, wrong: u32) -> (u32, Option<String>) {
     let expected = Model::of(n, &blocks).numbering(lengths);
     let mut out = calls::number(random, n, &blocks, lengths);
     out.answer.regions += wrong;
+    let difference = out.difference(&expected);
+    (expected.answer.number, difference.map(|d| format!("n = {n}, {blocks}, lengths {lengths:?}: {d}")))
+}
+
+/// n up to 5 or above 8, and a block list, faulty or not, with regions that surround others mostly.
+fn nested_list(random: &mut Random) -> (u32, Blocks) {
+    let n = match side(random) {
+        6..=8 => 5,
+        n => n,
+    };
+    let raster = match random.below(4) {
+        0 => rasters::any(random, drawn(n)),
+        _ => rasters::frames(random, drawn(n)),
+    };
+    (n, blocks_of(random, n, &raster))
+}
+
+/// An order of all regions: falling, the least, or random, at times with one change.
+fn order_of(random: &mut Random, model: &Model) -> Vec<u32> {
+    let regions = model.regions.as_ref().map_or(3, |regions| regions.count);
+    let mut order: Vec<u32> = match random.below(3) {
+        0 if model.number == 0 => model.surrounding().least_order(),
+        _ => (0..regions).rev().collect(),
+    };
+    for _ in 0..[0, 0, 1, 2][random.below(4)] {
+        order.swap(random.below(regions as usize), random.below(regions as usize));
+    }
+    if random.below(3) == 0 {
+        faults::in_list(random, &mut order, &[0, 1, regions - 1, regions, u32::MAX]);
+    }
+    order
+}
+
+fn check_order(random: &mut Random, wrong: u32) -> (u32, Option<String>) {
+    let (n, blocks) = nested_list(random);
+    let [labels, work, ..] = needs(n, blocks.len());
+    let lengths = [labels, work].map(|need| length(random, need));
+    let model = Model::of(n, &blocks);
+    let order = order_of(random, &model);
+    let expected = model.judging(&order, lengths);
+    let mut out = calls::check_order(random, n, &blocks, &order, lengths);
+    out.answer += wrong;
+    let difference = out.difference(&expected);
+    let what = format!("n = {n}, order {} of {blocks}, lengths {lengths:?}", Shown(&order));
+    (expected.answer, difference.map(|d| format!("{what}: {d}")))
+}
+
+/// Where `wrong` is 1 and there is an order, either its length is changed or one of its entries.
+fn least_order(random: &mut Random, wrong: u32) -> (u32, Option<String>) {
+    let (n, blocks) = nested_list(random);
+    let lengths = order_needs(n, blocks.len()).map(|need| length(random, need));
+    let expected = Model::of(n, &blocks).least_order(lengths);
+    let mut out = calls::least_order(random, n, &blocks, lengths);
+    let count = expected.answer.count as usize;
+    if wrong == 1 && count > 0 && random.below(2) == 0 {
+        let place = GUARD + random.below(count);
+        out.lists[2].damage(random, place);
+    } else {
+        out.answer.count += wrong;
+    }
     let difference = out.difference(&expected);
     (expected.answer.number, difference.map(|d| format!("n = {n}, {blocks}, lengths {lengths:?}: {d}")))
 }

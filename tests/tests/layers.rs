@@ -5,6 +5,7 @@ use tests::cases::Cases;
 use tests::compare::Shown;
 use tests::model::blocks::{quadtree, Blocks};
 use tests::model::overlay::largest;
+use tests::permutations::permutations;
 use tests::random::Random;
 use tests::rasters;
 
@@ -34,22 +35,12 @@ fn each_grouping(random: &mut Random, n: u32, scans: &[&Blocks]) -> Vec<Blocks> 
     results
 }
 
-/// Every order of so many things, by their places.
-fn orders(count: usize) -> Vec<Vec<usize>> {
-    if count == 0 {
-        return vec![vec![]];
-    }
-    let fewer = orders(count - 1);
-    let with_last = |order: &Vec<usize>, place| [&order[..place], &[count - 1], &order[place..]].concat();
-    fewer.iter().flat_map(|order| (0..count).map(move |place| with_last(order, place))).collect()
-}
-
 /// Lays rasters over one another in every order and grouping, and tells in how many ways.
 fn in_every_way(random: &mut Random, n: u32, rasters: &[Vec<u16>]) -> usize {
     let expected = quadtree(n, &largest(rasters));
     let scans: Vec<Blocks> = rasters.iter().map(|raster| quadtree(n, raster)).collect();
     let mut ways = 0;
-    for order in orders(scans.len()) {
+    for order in permutations(scans.len()) {
         let in_order: Vec<&Blocks> = order.iter().map(|&place| &scans[place]).collect();
         for result in each_grouping(random, n, &in_order) {
             assert_eq!(result, expected, "n = {n}, in the order {order:?}");

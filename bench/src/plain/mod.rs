@@ -4,6 +4,7 @@
 //! lent the same lists as the library.
 
 pub mod blocks;
+pub mod cutting;
 pub mod location;
 pub mod orders;
 pub mod outlines;
@@ -11,6 +12,7 @@ pub mod pgm;
 pub mod regions;
 
 pub use blocks::{blocks_from_raster, check, overlay, raster_from_blocks, touch_up};
+pub use cutting::{check_order, least_order};
 pub use location::{code, spread_code};
 pub use orders::{from_block_order, to_block_order};
 pub use outlines::trace;

@@ -7,11 +7,11 @@ use super::regions::number_blocks;
 use crate::nettlestair::Traced;
 use crate::sides::{Blocks, Lent};
 
-/// Set in a map entry once the north side of its pixel is walked.
-const WALKED: u32 = 1 << 31;
+/// Set in a map entry once the north side of its pixel is walked; for cutting orders, the south side.
+pub const WALKED: u32 = 1 << 31;
 
 /// One step east, north, west, south for pixels and corners kept as y times 512 plus x.
-const STEP: [u32; 4] = [1, 0u32.wrapping_sub(512), 0u32.wrapping_sub(1), 512];
+pub const STEP: [u32; 4] = [1, 0u32.wrapping_sub(512), 0u32.wrapping_sub(1), 512];
 
 /// The tail of the edge that goes east, north, west, south around its pixel, less that pixel.
 const TAIL: [u32; 4] = [0, 512, 513, 1];
@@ -96,9 +96,9 @@ fn list(
 }
 
 /// The region number of each pixel of an image of side 2^n, row by row, and the marks.
-struct Map<'a> {
-    n: u32,
-    cells: &'a mut [u32],
+pub struct Map<'a> {
+    pub n: u32,
+    pub cells: &'a mut [u32],
 }
 
 impl Map<'_> {
@@ -110,12 +110,12 @@ impl Map<'_> {
     }
 
     /// Where a pixel kept as y times 512 plus x stands among the cells.
-    fn at(&self, pixel: u32) -> usize {
+    pub fn at(&self, pixel: u32) -> usize {
         ((pixel >> 9) << self.n | (pixel & 511)) as usize
     }
 
     /// Whether a pixel, which may lie outside the image, is in a region.
-    fn inside(&self, pixel: u32, region: u32) -> bool {
+    pub fn inside(&self, pixel: u32, region: u32) -> bool {
         let side = (1 << self.n) - 1;
         pixel & !(side << 9 | side) == 0 && self.cells[self.at(pixel)] & !WALKED == region
     }

@@ -2,6 +2,7 @@
 
 pub mod areas;
 pub mod blocks;
+pub mod cutting_orders;
 pub mod lines;
 pub mod orders;
 pub mod outlines;
