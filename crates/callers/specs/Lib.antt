@@ -4,3 +4,4 @@ pub mod PathData
 pub mod LaidOver
 pub mod TouchedUp
 pub mod AreasAddUp
+pub mod Cutting

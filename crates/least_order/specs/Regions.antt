@@ -39,7 +39,7 @@ module _ {n count : ℕ} {codes levels labels work order : List ℕ} (ok : Arran
   forested = record {
     low = parents-lower (ok .numbered);
     parents = record { apart = fit .low; room = fit .room; holds = parents-are (ok .numbered) p size };
-    zeros = λ v h. p .blank v (omega (arith, fit .fits));
+    zeros = p .blank;
   }
 
   pub can-count : CanCount whole count found

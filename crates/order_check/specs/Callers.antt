@@ -8,15 +8,17 @@ use Prim.Native.Nat.{ℕ, zero, suc, _*_, _^_, _≤_, _<_}
 use native.Mathlib.Omega.{arith}
 use lib.ListN.{length}
 use Rattle.sequences.specs.Cases.{first-none}
+use Rattle.sequences.specs.Ranges.{tabulate}
 use Rattle.quadtree.specs.Blocks.{blocks, paint}
 use Rattle.quadtree.specs.Number.{number}
 use Rattle.quadtree.specs.Accepted.{number-zero}
 use Rattle.components.specs.Numbers.{numbers, regions}
 use Rattle.regions.specs.Promise.{numberingNumber, regionsCounted, Numbering, none}
+use Rattle.regions.specs.Callers.{labelOfPixel, labels-are-numbers}
 use Rattle.regions.specs.declared.Numbered.{Numbered}
 use Rattle.forests.specs.Orders.{EachOnce}
 use Rattle.forests.specs.Checking.{isEachOnce, each-once-says}
-use Rattle.surrounding.specs.CuttingOrders.{isInsideOut, RightOrder, StandsBefore, tests-say-right, standing-before}
+use Rattle.surrounding.specs.CuttingOrders.{InsideOut, isInsideOut, RightOrder, StandsBefore, tests-say-right, standing-before}
 use Rattle.order_check.specs.Promise.{faultOfOrder, orderNumber, OrderCheck, not-each-once, not-inside-out, right}
 
 -- The three answers about an order of the regions of an image.
@@ -83,6 +85,16 @@ module _ {n : ℕ} {cs ls ks order labels₀ work₀ labels₁ work₁ : List �
       zero-says n px order small answer-is,
       λ o. let t = tests-say-right n px small order .1 o in judged ∙ right n px order (t .0) (t .1),
     )
+
+    -- The same by the labels at exit: the region of a pixel is the label of the block that holds it.
+    pub yes-exactly-when-right-by-labels :
+        (r ≡ 0) ↔ (EachOnce (regions n (paint (blocks cs ls ks))) order × InsideOut n (tabulate (4 ^ n) (labelOfPixel (blocks cs ls ks) labels₁)) order)
+    yes-exactly-when-right-by-labels =
+        let same : tabulate (4 ^ n) (labelOfPixel (blocks cs ls ks) labels₁) ≡ numbers n px =
+        labels-are-numbers lists-as-numbered (none n cs ls ks labels₀ work₀ accepted one-a-block room) in (
+          λ e. let o = yes-exactly-when-right .0 e in (o .each, subst (λ (m : List ℕ). InsideOut n m order) (sym same) (o .inside-out)),
+          λ o. yes-exactly-when-right .1 (record { each = o .0; inside-out = subst (λ (m : List ℕ). InsideOut n m order) same (o .1) }),
+        )
 
     -- "19 (the given order is not every region once)".
     pub nineteen-exactly-when-not-every-region-once : (r ≡ 19) ↔ (EachOnce (regions n (paint (blocks cs ls ks))) order → ⊥)

@@ -33,7 +33,7 @@ module _ {n : ℕ} {codes levels labels order work : List ℕ} (ok : Orderable n
   families = record {
     blank = record {
       room = omega (arith, f .low, f .room);
-      zeros = λ v h. p .blank v (omega (arith, f .fits));
+      zeros = p .blank;
     };
     small = f .small;
     apart = f .low;

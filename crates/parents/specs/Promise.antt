@@ -1,4 +1,4 @@
--- The parents of all regions: the map is filled, the regions are settled, and the map is cleared.
+-- The parents of all regions: the map is filled, the regions are settled, and an entry a region is cleared.
 use mathlib.Core.Path.{_≡_, sym, ap, _∙_, subst}
 use mathlib.Core.List.{List}
 use Prim.Native.Nat.{ℕ, _+_, _*_, _^_, _≤_, _<_}
@@ -6,13 +6,12 @@ use native.Mathlib.Omega.{arith}
 use lib.ListN.{length, getD, take}
 use Rattle.sequences.specs.Fill.{fill, length-fill, fill-inside, fill-beyond}
 use Rattle.sequences.specs.Over.{over}
-use Rattle.location.specs.Levels.{pixelsOf, pixels-are-power}
 use Rattle.quadtree.specs.Blocks.{Block, blocks, pixels, paint}
 use Rattle.quadtree.specs.Raster.{inRows}
 use Rattle.staircase.specs.FirstBlocks.{block-placed}
 use Rattle.components.specs.Holders.{blockAt, holder, HoldsAt, pixels-grow, held-colour, held-in-image, pixel-held, first-pixel-held}
 use Rattle.components.specs.Numbers.{numbers, regions}
-use Rattle.components.specs.Numbered.{each-number-given}
+use Rattle.components.specs.Numbered.{regions-at-most-pixels, each-number-given}
 use Rattle.links.specs.Forward.{Labelled}
 use Rattle.links.specs.Relabelled.{length-as, code-as, colour-as}
 use Rattle.cycles.specs.Mapped.{numsOf}
@@ -30,11 +29,11 @@ pub record RegionsNumbered (n count : ℕ) (codes levels labels work : List ℕ)
   pub counted : count ≡ regions n image
   pub room : 2 * 4 ^ n ≤ length work
 
--- The first 4^n entries of the work list are 0, then come the parents of the regions: 1 plus the parent's number, 0 where there is none.
--- What lies beyond is as it was.
+-- From the place 4^n of the work list on stand the parents of the regions: 1 plus the parent's number, 0 where there is none. What lies
+-- beyond is as it was. In front one entry a region is 0; what the others hold is free.
 pub record ParentsFound (n count : ℕ) (codes levels labels work work′ : List ℕ) : Type 0 where
   pub long : length work′ ≡ length work
-  pub blank : (j : ℕ) → j < 4 ^ n → getD work′ j 0 ≡ 0
+  pub blank : (v : ℕ) → v < count → getD work′ v 0 ≡ 0
   pub parents : (v : ℕ) → v < count → getD work′ (4 ^ n + v) 0 ≡ parentOf n (paint (blocks codes levels labels)) v
   pub beyond : (j : ℕ) → 4 ^ n + count ≤ j → getD work′ j 0 ≡ getD work j 0
 
@@ -77,10 +76,6 @@ module _ {n count : ℕ} {codes levels labels work : List ℕ} (ok : RegionsNumb
       first : (i : ℕ) → i < length codes → HoldsAt bs i (pixels (take i bs))
       first i h = first-pixel-held n bs (ok .labelled .covering) i (omega (arith, long))
 
-  module _ {whole : ℕ} (size : whole ≡ pixelsOf n) where
-    whole-is : whole ≡ 4 ^ n
-    whole-is = size ∙ pixels-are-power n (omega (arith, ok .labelled .small))
-
   pub fillable : Fillable n codes levels labels work
   fillable = record { levels-too = ok .equal; labels-too = ok .enough; labelled = ok .labelled; enough = omega (arith, ok .room) }
 
@@ -105,20 +100,23 @@ module _ {n count : ℕ} {codes levels labels work : List ℕ} (ok : RegionsNumb
       };
     }
 
-    module _ {settled : List ℕ} (t : AllSettled n count mapped settled) {whole : ℕ} (size : whole ≡ pixelsOf n) where
-      pub clear-room : 0 + whole ≤ length settled
-      clear-room = omega (arith, whole-is size, t .settled .room)
+    module _ {settled : List ℕ} (t : AllSettled n count mapped settled) where
+      few : count ≤ 4 ^ n
+      few = omega (arith, ok .counted, regions-at-most-pixels n (ok .image))
 
-      pub parents-found : {cleared : List ℕ} → cleared ≡ fill settled 0 whole 0 → ParentsFound n count codes levels labels work cleared
+      pub clear-room : 0 + count ≤ length settled
+      clear-room = omega (arith, few, t .settled .room)
+
+      pub parents-found : {cleared : List ℕ} → cleared ≡ fill settled 0 count 0 → ParentsFound n count codes levels labels work cleared
       parents-found {cleared} c = record {
-        long = ap length c ∙ length-fill settled 0 whole 0 ∙ t .long ∙ filled .same-length;
-        blank = λ j h. at j ∙ fill-inside settled 0 whole 0 j clear-room (omega arith) (omega (arith, whole-is size));
+        long = ap length c ∙ length-fill settled 0 count 0 ∙ t .long ∙ filled .same-length;
+        blank = λ v h. at v ∙ fill-inside settled 0 count 0 v clear-room (omega arith) (omega arith);
         parents = λ v h. behind (4 ^ n + v) (omega arith) ∙ t .settled .parents v h ∙ ap (λ (m : List ℕ). parentOf n m v) (t .same-numbers ∙ filled .numbers);
         beyond = λ j h. behind j (omega arith) ∙ t .beyond j h ∙ filled .beyond j (omega arith);
       }
         where
-          at : (j : ℕ) → getD cleared j 0 ≡ getD (fill settled 0 whole 0) j 0
+          at : (j : ℕ) → getD cleared j 0 ≡ getD (fill settled 0 count 0) j 0
           at j = ap (λ (l : List ℕ). getD l j 0) c
 
           behind : (j : ℕ) → 4 ^ n ≤ j → getD cleared j 0 ≡ getD settled j 0
-          behind j h = at j ∙ fill-beyond settled 0 whole 0 j (omega (arith, whole-is size))
+          behind j h = at j ∙ fill-beyond settled 0 count 0 j (omega (arith, few))

@@ -127,7 +127,7 @@ module _ {n : ℕ} {cs ls ks labels₀ work₀ labels₁ work₁ : List ℕ} {r 
           λ q. label-at-exit i a ∙ both .1 q ∙ sym (label-at-exit j b),
         )
 
-    labels-are-numbers : tabulate (4 ^ n) (labelOfPixel (blocks cs ls ks) labels₁) ≡ numbers n (paint (blocks cs ls ks))
+    pub labels-are-numbers : tabulate (4 ^ n) (labelOfPixel (blocks cs ls ks) labels₁) ≡ numbers n (paint (blocks cs ls ks))
     unfolding labelOfPixel
     labels-are-numbers =
         sym (tabulate-from (4 ^ n) (labelOfPixel (blocks cs ls ks) labels₁) (numbers n (paint (blocks cs ls ks))) (length-numbers n (paint (blocks cs ls ks))) (λ c h. sym (at c h)))

@@ -1,4 +1,4 @@
--- `find_parents` meets its contract: the map is filled, all regions are settled on it, and the map is cleared.
+-- `find_parents` meets its contract: the map is filled, all regions are settled on it, and an entry a region is cleared.
 use Rattle.parents.specs.Promise.{fillable, all-next, clear-room, parents-found}
 use borrow.Author.Needs.{needs}
 use Rattle.parents.proofs.find_parents.Statement.{statement}
@@ -12,8 +12,8 @@ entry c = c .before .before .before .before .before
 abbrev filled : tie.After-settle-all-arg → tie.After-fill-map
 filled c = c .before .before .before
 
-abbrev settled : tie.After-pixels → tie.After-settle-all
-settled c = c .before .before .before .before
+abbrev settled : tie.After-fill-arg → tie.After-settle-all
+settled c = c .before .before .before
 
 -- ---- the needs
 
@@ -23,14 +23,11 @@ fill-map-requires c κs = fillable (entry c .pre)
 settle-all-requires : tie.Need-settle-all-requires
 settle-all-requires c κs = let m = filled c in all-next (entry (m .before) .pre) (m .fill-map .ensures)
 
-pixels-requires : tie.Need-pixels-requires
-pixels-requires c κs = search needs
-
 fill-requires : tie.Need-fill-requires
 fill-requires c κs =
     let a = settled c in
     let m = filled (a .before) in
-    clear-room (entry (m .before) .pre) (m .fill-map .ensures) (a .settle-all .ensures) (c .pixels .ensures)
+    clear-room (entry (m .before) .pre) (m .fill-map .ensures) (a .settle-all .ensures)
 
 same-length : tie.Need-same-length
 same-length c = search needs
@@ -40,9 +37,9 @@ returns c =
     let f = c .before .before in
     let a = settled (f .before) in
     let m = filled (a .before) in
-    parents-found (entry (m .before) .pre) (m .fill-map .ensures) (a .settle-all .ensures) (f .before .pixels .ensures) (f .fill .ensures)
+    parents-found (entry (m .before) .pre) (m .fill-map .ensures) (a .settle-all .ensures) (f .fill .ensures)
 
 pub find-parents-spec : {M : Type 1} → statement M
 find-parents-spec =
     tie.close
-    (tie.spec fill-map-requires settle-all-requires pixels-requires fill-requires same-length returns)
+    (tie.spec fill-map-requires settle-all-requires fill-requires same-length returns)
