@@ -106,8 +106,8 @@ pub fn check_order(
         return 19;
     }
     let right = inside_out(n, codes, levels, labels, order, work);
-    if !right {
-        return 20;
+    if right {
+        return 0;
     }
-    0
+    20
 }

@@ -81,7 +81,7 @@ returns-3 c =
     let t = tested (o .before) in
     let e = accepted (t .before) in
     let d = numbered (e .before) in
-    twenty (d .number .ensures) (e .if1 .left) (entry d .args .order .now) (t .each-once .ensures) (not-false _ (o .if2 .left)) (j .inside-out .ensures) (not-flips _ (c .if3 .taken))
+    yes-right (d .number .ensures) (e .if1 .left) (entry d .args .order .now) (t .each-once .ensures) (not-false _ (o .if2 .left)) (j .inside-out .ensures) (c .if3 .taken)
 
 same-length-7 : tie.Need-same-length-7
 same-length-7 c = search needs
@@ -96,7 +96,7 @@ returns-4 c =
     let t = tested (o .before) in
     let e = accepted (t .before) in
     let d = numbered (e .before) in
-    yes-right (d .number .ensures) (e .if1 .left) (entry d .args .order .now) (t .each-once .ensures) (not-false _ (o .if2 .left)) (j .inside-out .ensures) (not-false _ (c .if3 .left))
+    twenty (d .number .ensures) (e .if1 .left) (entry d .args .order .now) (t .each-once .ensures) (not-false _ (o .if2 .left)) (j .inside-out .ensures) (c .if3 .left)
 
 pub check-order-spec : {M : Type 1} → statement M
 check-order-spec =
