@@ -300,10 +300,10 @@ pub extern "C" fn nettlestair_least_order(
         (now (labels .entry)) (now (work .entry)) (now (order .entry)) (now (labels .exit)) (now (work .exit)) (now (order .exit))
         (record { number = r .number; count = r .count }) ⌝ }
 {
-    let ordered = least_order::least_order(n, codes, levels, colours, labels, work, order);
+    let least = least_order::least_order(n, codes, levels, colours, labels, work, order);
     Written {
-        number: ordered.number,
-        count: ordered.count,
+        number: least.number,
+        count: least.count,
     }
 }
 

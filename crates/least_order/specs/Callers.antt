@@ -1,21 +1,23 @@
 -- What the promise says where a caller stands: the order given is right, and no right order is smaller.
-use mathlib.Core.Path.{_≡_, refl, sym, ap, _∙_, subst}
+use mathlib.Core.Path.{_≡_, sym, ap, _∙_, subst}
 use mathlib.Core.List.{List}
 use Prim.Native.Nat.{ℕ, _*_, _^_, _≤_, _<_}
+use native.Mathlib.Decide.{decLt}
 use native.Mathlib.Omega.{arith}
 use lib.ListN.{length, getD, take, replicate}
-use Rattle.sequences.specs.Cases.{ifAccepted, written-accepted, written-refused, count-accepted}
+use Rattle.sequences.specs.Cases.{ifAccepted, first-some, written-accepted, written-refused}
 use Rattle.sequences.specs.Over.{over, over-none, over-beyond}
 use Rattle.answers.specs.declared.Written.{Written}
 use Rattle.answers.specs.Answers.{Wrote, accepted-writes}
 use Rattle.quadtree.specs.Blocks.{blocks, paint}
-use Rattle.quadtree.specs.Number.{number}
+use Rattle.quadtree.specs.Number.{number, numberWith}
 use Rattle.quadtree.specs.Accepted.{number-zero}
 use Rattle.components.specs.Numbers.{numbers, labels, regions}
-use Rattle.regions.specs.Promise.{numberingNumber, labelsWritten, zerosWritten, regionsCounted, Numbering, none, numbered}
+use Rattle.regions.specs.Promise.{Numbering, none, numbered}
+use Rattle.regions.specs.Callers.{eight-unless-long}
 use Rattle.forests.specs.Least.{LeastOf}
 use Rattle.surrounding.specs.CuttingOrders.{InsideOut, RightOrder, cuttingOrder, cutting-order-is-least}
-use Rattle.least_order.specs.Promise.{orderingNumber, LeastOrdering, same-number}
+use Rattle.least_order.specs.Promise.{orderingNumber, LeastOrdering, order-list-short, same-number}
 
 module _ {n : ℕ} {cs ls ks labels₀ work₀ order₀ labels₁ work₁ order₁ : List ℕ} {r : Written}
     (p : LeastOrdering n cs ls ks labels₀ work₀ order₀ labels₁ work₁ order₁ r) where
@@ -35,6 +37,21 @@ module _ {n : ℕ} {cs ls ks labels₀ work₀ order₀ labels₁ work₁ order�
         p .in-work ∙ ap (λ (l : List ℕ). over l work₀) (written-refused number-then (replicate (2 * 4 ^ n) 0) some) ∙ over-none work₀,
         p .in-order .list ∙ ap (λ (l : List ℕ). over l order₀) nothing ∙ over-none order₀,
       )
+
+  -- "Checks: 1 to 7": the block list's own number comes first.
+  pub list-comes-first : 0 < number n cs ls ks → r .number ≡ number n cs ls ks
+  unfolding orderingNumber numberWith
+  list-comes-first h = p .in-order .number-is ∙ first-some (number n cs ls ks) _ h
+
+  -- "then 8 for these lists", the order list included.
+  pub eight-comes-last : number n cs ls ks ≡ 0 → ((length cs ≤ length labels₀) × (2 * 4 ^ n ≤ length work₀) × (length cs ≤ length order₀) → ⊥) → r .number ≡ 8
+  eight-comes-last accepted short = p .in-order .number-is ∙ pick (decLt (length order₀) (length cs))
+    where
+      pick : Dec (length order₀ < length cs) → number-then ≡ 8
+      pick (yes h) = order-list-short n cs ls ks labels₀ work₀ order₀ accepted h
+      pick (no h) =
+          let long : length cs ≤ length order₀ = omega arith in
+          same-number n cs ls ks labels₀ work₀ order₀ long ∙ eight-unless-long n cs ls ks labels₀ work₀ accepted (λ l. short (l .0, l .1, long))
 
   -- An accepted list, and lists that are long enough.
   module _ (accepted : number n cs ls ks ≡ 0) (one-a-block : length cs ≤ length labels₀) (room : 2 * 4 ^ n ≤ length work₀)

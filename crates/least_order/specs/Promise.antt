@@ -60,14 +60,16 @@ module _ (n : ℕ) (cs ls ks labels₀ work₀ order₀ : List ℕ) where
   list-refused {k} e some =
       refused some (e ∙ sym (first-some (number n cs ls ks) (when (tooShort n cs labels₀ work₀ order₀) 8) (omega (arith, e))))
 
+  pub order-list-short : number n cs ls ks ≡ 0 → length order₀ < length cs → orderingNumber n cs ls ks labels₀ work₀ order₀ ≡ 8
+  unfolding orderingNumber numberWith tooShort
+  order-list-short accepted h =
+      first-none (number n cs ls ks) (when (tooShort n cs labels₀ work₀ order₀) 8) accepted
+      ∙ when-yes (tooShort n cs labels₀ work₀ order₀) 8
+      (or-right (ltb (length labels₀) (length cs) || ltb (length work₀) (2 * 4 ^ n)) (ltb (length order₀) (length cs)) (lt-ltb (length order₀) (length cs) h))
+
   pub order-short : {k : ℕ} → k ≡ number n cs ls ks → k ≡ 0 → length order₀ < length cs
       → LeastOrdering n cs ls ks labels₀ work₀ order₀ labels₀ work₀ order₀ (record { number = 8; count = 0 })
-  unfolding orderingNumber numberWith tooShort
-  order-short {k} e z h =
-      refused (omega arith)
-      (sym (first-none (number n cs ls ks) (when (tooShort n cs labels₀ work₀ order₀) 8) (sym e ∙ z)
-      ∙ when-yes (tooShort n cs labels₀ work₀ order₀) 8
-      (or-right (ltb (length labels₀) (length cs) || ltb (length work₀) (2 * 4 ^ n)) (ltb (length order₀) (length cs)) (lt-ltb (length order₀) (length cs) h))))
+  order-short e z h = refused (omega arith) (sym (order-list-short (sym e ∙ z) h))
 
   -- Where the order list is long enough, the number is that of the numbering.
   module _ (long : length cs ≤ length order₀) where

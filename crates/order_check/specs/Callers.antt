@@ -7,14 +7,14 @@ use mathlib.Core.List.{List}
 use Prim.Native.Nat.{ℕ, zero, suc, _*_, _^_, _≤_, _<_}
 use native.Mathlib.Omega.{arith}
 use lib.ListN.{length}
-use Rattle.sequences.specs.Cases.{first-none}
+use Rattle.sequences.specs.Cases.{first-some, first-none}
 use Rattle.sequences.specs.Ranges.{tabulate}
 use Rattle.quadtree.specs.Blocks.{blocks, paint}
-use Rattle.quadtree.specs.Number.{number}
+use Rattle.quadtree.specs.Number.{number, numberWith}
 use Rattle.quadtree.specs.Accepted.{number-zero}
 use Rattle.components.specs.Numbers.{numbers, regions}
 use Rattle.regions.specs.Promise.{numberingNumber, regionsCounted, Numbering, none}
-use Rattle.regions.specs.Callers.{labelOfPixel, labels-are-numbers}
+use Rattle.regions.specs.Callers.{labelOfPixel, refusal-leaves-all, eight-unless-long, labels-are-numbers}
 use Rattle.regions.specs.declared.Numbered.{Numbered}
 use Rattle.forests.specs.Orders.{EachOnce}
 use Rattle.forests.specs.Checking.{isEachOnce, each-once-says}
@@ -56,6 +56,15 @@ module _ (n : ℕ) (px order : List ℕ) (small : n ≤ 8) where
   twenty-says (not-every-region-once o) e = absurd (omega arith)
   twenty-says (one-before-what-it-surrounds o b) e = (o, b)
 
+-- Of an order there are no other numbers.
+fault-high : (n : ℕ) (px order : List ℕ) → 0 < faultOfOrder n px order → faultOfOrder n px order < 19 → ⊥
+fault-high n px order some low = pick (isEachOnce (regions n px) order) (isInsideOut n px order) refl refl
+  where
+    pick : (a b : Bool) → isEachOnce (regions n px) order ≡ a → isInsideOut n px order ≡ b → ⊥
+    pick false b e f = omega (arith, not-each-once n px order e)
+    pick true false e f = omega (arith, not-inside-out n px order e f)
+    pick true true e f = omega (arith, right n px order e f)
+
 module _ {n : ℕ} {cs ls ks order labels₀ work₀ labels₁ work₁ : List ℕ} {r : ℕ} (p : OrderCheck n cs ls ks order labels₀ work₀ labels₁ work₁ r) where
   abbrev px : List ℕ
   px = paint (blocks cs ls ks)
@@ -64,6 +73,40 @@ module _ {n : ℕ} {cs ls ks order labels₀ work₀ labels₁ work₁ : List �
   pub lists-as-numbered : Numbering n cs ls ks labels₀ work₀ labels₁ work₁
       (record { number = numberingNumber n cs ls ks labels₀ work₀; regions = regionsCounted n cs ls ks labels₀ work₀ })
   lists-as-numbered = record { answer = refl; in-labels = p .in-labels; in-work = p .in-work }
+
+  -- ---- refusals by the block list and the lent lists: they leave both lists
+
+  abbrev before-order : ℕ
+  before-order = numberingNumber n cs ls ks labels₀ work₀
+
+  refused-before : (k : ℕ) → before-order ≡ k → 0 < k → (r ≡ k) × (labels₁ ≡ labels₀) × (work₁ ≡ work₀)
+  unfolding orderNumber
+  refused-before k e h =
+      let left = refusal-leaves-all lists-as-numbered (omega arith) in
+      (p .answer ∙ first-some before-order (faultOfOrder n px order) (omega arith) ∙ e, left .1, left .2)
+
+  -- "Checks: 1 to 7": the block list's own number comes first.
+  pub list-comes-first : 0 < number n cs ls ks → (r ≡ number n cs ls ks) × (labels₁ ≡ labels₀) × (work₁ ≡ work₀)
+  unfolding numberingNumber numberWith
+  list-comes-first h = refused-before (number n cs ls ks) (first-some (number n cs ls ks) _ h) h
+
+  -- "then 8 for these lists": before the order is looked at.
+  pub eight-comes-next : number n cs ls ks ≡ 0 → ((length cs ≤ length labels₀) × (2 * 4 ^ n ≤ length work₀) → ⊥)
+      → (r ≡ 8) × (labels₁ ≡ labels₀) × (work₁ ≡ work₀)
+  eight-comes-next accepted short = refused-before 8 (eight-unless-long n cs ls ks labels₀ work₀ accepted short) (omega arith)
+
+  -- "So those entries are further exceptions to the rule that a refusal alters nothing": 19 and 20 alone are.
+  pub other-refusals-leave-both : 0 < r → r < 19 → (labels₁ ≡ labels₀) × (work₁ ≡ work₀)
+  unfolding orderNumber
+  other-refusals-leave-both some low = pick before-order refl
+    where
+      pick : (k : ℕ) → before-order ≡ k → (labels₁ ≡ labels₀) × (work₁ ≡ work₀)
+      pick (suc k) e = let left = refused-before (suc k) e (omega arith) in (left .1, left .2)
+      pick zero e =
+          let judged : r ≡ faultOfOrder n px order = p .answer ∙ first-none before-order (faultOfOrder n px order) e in
+          absurd (fault-high n px order (omega (arith, judged)) (omega (arith, judged)))
+
+  -- ---- the verdict
 
   -- An accepted list, and lists that are long enough.
   module _ (accepted : number n cs ls ks ≡ 0) (one-a-block : length cs ≤ length labels₀) (room : 2 * 4 ^ n ≤ length work₀) where

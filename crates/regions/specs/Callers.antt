@@ -8,7 +8,7 @@ use native.Mathlib.Omega.{arith}
 use lib.ListN.{length, getD, replicate, length-replicate, getD-replicate}
 use lib.Dec.{ltb}
 use borrow.Author.Tests.{ltb-false}
-use Rattle.sequences.specs.Cases.{first-zero, when-zero, written-accepted, written-refused, count-accepted, count-refused}
+use Rattle.sequences.specs.Cases.{when, first-none, first-zero, when-yes, when-zero, written-accepted, written-refused, count-accepted, count-refused}
 use Rattle.sequences.specs.Over.{over, over-none, over-inside, over-beyond}
 use Rattle.sequences.specs.Ranges.{tabulate, tabulate-from}
 use Rattle.quadtree.specs.Blocks.{Block, blocks, paint}
@@ -27,6 +27,20 @@ use Rattle.regions.specs.Promise.{numberingNumber, labelsWritten, zerosW
 or-false : (a b : Bool) → a || b ≡ false → (a ≡ false) × (b ≡ false)
 or-false true b h = absurd (true≢false h)
 or-false false b h = (refl, h)
+
+-- Where the check finds nothing and one of the lists is too short, the number is 8.
+pub eight-unless-long : (n : ℕ) (cs ls ks labels₀ work₀ : List ℕ) → number n cs ls ks ≡ 0
+    → ((length cs ≤ length labels₀) × (2 * 4 ^ n ≤ length work₀) → ⊥) → numberingNumber n cs ls ks labels₀ work₀ ≡ 8
+unfolding numberingNumber numberWith
+eight-unless-long n cs ls ks labels₀ work₀ accepted short =
+    first-none (number n cs ls ks) _ accepted ∙ pick (ltb (length labels₀) (length cs) || ltb (length work₀) (2 * 4 ^ n)) refl
+  where
+    pick : (t : Bool) → ltb (length labels₀) (length cs) || ltb (length work₀) (2 * 4 ^ n) ≡ t
+        → when (ltb (length labels₀) (length cs) || ltb (length work₀) (2 * 4 ^ n)) 8 ≡ 8
+    pick true e = when-yes (ltb (length labels₀) (length cs) || ltb (length work₀) (2 * 4 ^ n)) 8 e
+    pick false e =
+        let none-short = or-false (ltb (length labels₀) (length cs)) (ltb (length work₀) (2 * 4 ^ n)) e in
+        absurd (short (ltb-false (length labels₀) (length cs) (none-short .0), ltb-false (length work₀) (2 * 4 ^ n) (none-short .1)))
 
 -- The label of the block that holds the pixel c.
 unfoldable pub labelOfPixel : List Block → List ℕ → ℕ → ℕ
