@@ -1,14 +1,10 @@
--- Two ways to give the parents of the numbers below N: where they agree there, the orders, the test and the least order are the same.
-use mathlib.Core.Path.{_≡_, refl, sym, _∙_}
-use mathlib.Core.Bool.{true}
+-- Two ways to give the parents of the numbers below N: where they agree there, the test of an order is the same.
+use mathlib.Core.Path.{_≡_, sym, _∙_}
 use mathlib.Core.List.{List}
 use Prim.Native.Nat.{ℕ, _<_}
-use lib.ListN.{length, getD}
 use Rattle.sequences.specs.Cases.{same-test}
 use Rattle.forests.specs.Forest.{ParentsBelow}
 use Rattle.forests.specs.Orders.{EachOnce, ChildrenFirst}
-use Rattle.forests.specs.LeastOrder.{leastOrder}
-use Rattle.forests.specs.Least.{LeastOf, only-least, least-order}
 use Rattle.forests.specs.Checking.{isChildrenFirst, children-first-says}
 
 module _ (N : ℕ) (up other : ℕ → ℕ) (same : (v : ℕ) → v < N → up v ≡ other v) where
@@ -26,16 +22,3 @@ module _ (N : ℕ) (up other : ℕ → ℕ) (same : (v : ℕ) → v < N → up v
       let a = children-first-says N up low l each in
       let b = children-first-says N other (parents-below-same low) l each in
       same-test (isChildrenFirst up l) (isChildrenFirst other l) (λ h. b .1 (children-first-same l each (a .0 h))) (λ h. a .1 (children-first-back l each (b .0 h)))
-
-  pub least-order-same : ParentsBelow N up → leastOrder N up ≡ leastOrder N other
-  least-order-same low =
-      let a : LeastOf N (ChildrenFirst up) (leastOrder N up) = least-order N up low in
-      let b : LeastOf N (ChildrenFirst up) (leastOrder N other) = back (least-order N other (parents-below-same low)) in
-      only-least N (ChildrenFirst up) (leastOrder N up) (leastOrder N other) a b
-    where
-      back : LeastOf N (ChildrenFirst other) (leastOrder N other) → LeastOf N (ChildrenFirst up) (leastOrder N other)
-      back b = record {
-        each = b .each;
-        allowed = children-first-back (leastOrder N other) (b .each) (b .allowed);
-        least = λ m e f. b .least m e (children-first-same m e f);
-      }

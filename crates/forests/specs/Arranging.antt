@@ -62,9 +62,6 @@ module _ {N whole : ℕ} {up : ℕ → ℕ} where
         let e : 0 ≡ N - v = omega arith in
         sym (append-nil written) ∙ ap (λ k. written ++ orderFrom N up k v (s .placed)) e ∙ s .order
 
-    pub arranging-fits : length written ≤ N
-    arranging-fits = omega (arith, ap length (s .order), length-append written (orderFrom N up (N - v) v (s .placed)), each-once N up (s .held .low) .long)
-
     module _ (h : v < N) where
       count-of-all : getD w v 0 ≡ missing up [] v N
       count-of-all = s .held .counts .holds v h ∙ missing-before N up (s .held .low) v (s .placed) (s .settled)

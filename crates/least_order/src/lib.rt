@@ -116,7 +116,10 @@ pub fn least_order(
     if order.len() < codes.len() {
         let fault = blocks::check(n, codes, levels, colours);
         if fault != 0 {
-            return Written { number: fault, count: 0 };
+            return Written {
+                number: fault,
+                count: 0,
+            };
         }
         return Written {
             number: 8,

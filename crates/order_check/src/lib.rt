@@ -71,7 +71,14 @@ fn parents_last(whole: usize, order: &[u32], work: &mut [u32]) -> bool
 }
 
 // Whether the order, every region once, goes from the inside out. The work list is left as it was.
-fn inside_out(n: u32, codes: &[u32], levels: &[u8], labels: &[u32], order: &[u32], work: &mut [u32]) -> bool
+fn inside_out(
+    n: u32,
+    codes: &[u32],
+    levels: &[u8],
+    labels: &[u32],
+    order: &[u32],
+    work: &mut [u32],
+) -> bool
     requires { ⌜ Orderable n (now codes) (now levels) (now labels) (now order) (now work) ⌝ }
     ensures { λ r. ⌜ Judged n (now (codes .entry)) (now (levels .entry)) (now (labels .entry)) (now (order .entry))
         (now (work .entry)) (now (work .exit)) r ⌝ }

@@ -95,8 +95,12 @@ module _ {n : ℕ} {work : List ℕ} {x y : ℕ} (a : LeastAt n work x y) where
       unfolding Marked
       marked-says = (
         λ h. tell (a .settled .marked (code n x (y - 1)) (code-below n x (y - 1)) .0 (subst (λ (j : ℕ). markBit ≤ getD work j 0) (sym at-place) h)),
-        λ i. subst (λ (j : ℕ). markBit ≤ getD work j 0) at-place (a .settled .marked (code n x (y - 1)) (code-below n x (y - 1)) .1
-            (record { region = v .region; smaller = v .smaller; holds = subst (λ (m : List ℕ). In (southSide n (code n x (y - 1))) (firstCycle n m (v .region))) (sym (a .settled .numbered)) (subst (λ (q : ℕ). In (southSide n q) (firstCycle n nums (v .region))) north-here i) })),
+        λ i. subst (λ (j : ℕ). markBit ≤ getD work j 0) at-place (a .settled .marked (code n x (y - 1)) (code-below n x (y - 1)) .1 (record {
+          region = v .region;
+          smaller = v .smaller;
+          holds = subst (λ (m : List ℕ). In (southSide n (code n x (y - 1))) (firstCycle n m (v .region))) (sym (a .settled .numbered))
+              (subst (λ (q : ℕ). In (southSide n q) (firstCycle n nums (v .region))) north-here i);
+        })),
       )
         where
           tell : InFirstCycle n (numsOf n work) s (code n x (y - 1)) → In (southSide n (northOf n (placeOf s nums))) (firstCycle n nums (v .region))

@@ -69,7 +69,14 @@ fn settle_all(n: u32, count: usize, codes: &[u32], labels: &[u32], work: &mut [u
 
 // Writes 1 plus the parent of each region, 0 where it has none, behind the first 4^n entries of the work list. Of these one a region is 0
 // then; the others are left as the map.
-pub fn find_parents(n: u32, count: usize, codes: &[u32], levels: &[u8], labels: &[u32], work: &mut [u32])
+pub fn find_parents(
+    n: u32,
+    count: usize,
+    codes: &[u32],
+    levels: &[u8],
+    labels: &[u32],
+    work: &mut [u32],
+)
     requires { ⌜ RegionsNumbered n count (now codes) (now levels) (now labels) (now work) ⌝ }
     ensures { λ _. ⌜ ParentsFound n count (now (codes .entry)) (now (levels .entry)) (now (labels .entry)) (now (work .entry)) (now (work .exit)) ⌝ }
 {
