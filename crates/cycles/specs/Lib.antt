@@ -5,7 +5,7 @@ pub mod Areas
 pub mod Promise
 pub mod Points
 pub mod Rounds
-pub mod NorthEdges
+pub mod CycleStarts
 pub mod Straight
 pub mod Walking
 pub mod Written

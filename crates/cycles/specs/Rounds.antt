@@ -6,7 +6,7 @@ use Prim.Native.Nat.{ℕ, zero, suc, _≤_, _<_}
 use native.Mathlib.Nat.{not-suc-le-zero}
 use native.Mathlib.Omega.{arith}
 use lib.ListN.{length}
-use Rattle.lattice.specs.Directions.{point, edge}
+use Rattle.lattice.specs.Directions.{point, edge, digit}
 use Rattle.orbits.specs.Orbits.{until, Returns}
 use Rattle.orbits.specs.StepsTo.{StepsTo, round, arrived, Further, further}
 use Rattle.grid.specs.Steps.{Edge, step}
@@ -15,7 +15,18 @@ use Rattle.grid.specs.Undoing.{step-edge}
 use Rattle.grid.specs.Returning.{edge-returns}
 use Rattle.grid.specs.Closing.{others, cycle-first}
 use Rattle.steps.specs.Look.{mapAt, Square, at-margin}
+use Rattle.steps.specs.Rule.{Way, way}
 use Rattle.cycles.specs.Marks.{mark, marks, length-mark, map-kept}
+
+-- The edge s of the region r, with which a walk begins: its direction differs from that of the edge before.
+pub record FirstEdge (side r s : ℕ) (map : List ℕ) : Type 0 where
+  pub square : Square side map
+  pub on-region : Edge (mapAt side map) r s
+  pub corner : (e : ℕ) → Edge (mapAt side map) r e → step (mapAt side map) e ≡ s → digit e ≢ digit s
+
+-- An eastward one, at (column, row), lies in the image.
+pub start-low : {side r : ℕ} {map : List ℕ} (column row : ℕ) → FirstEdge side r (edge (point column row) 0) map → column < 512 → Way column row 0
+start-low {side} {r} {map} column row first h = way (mapAt side map) (at-margin side map (first .square .small)) r column row 0 h (omega arith) (first .on-region)
 
 -- What is left of the cycle from e, where s ends it.
 unfoldable pub rest : (ℕ → ℕ → ℕ) → ℕ → ℕ → List ℕ

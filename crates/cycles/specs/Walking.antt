@@ -14,30 +14,27 @@ use Rattle.lattice.specs.Corners.{turns-on, turns-turn}
 use Rattle.lattice.specs.Outlines.{x-of-point, y-of-point, tail-edge, digit-edge}
 use Rattle.lattice.specs.Area.{area, legArea, legBetween, Aligned, area-push, aligned-then, legs-joined, area-size}
 use Rattle.grid.specs.Margins.{Margin}
-use Rattle.grid.specs.Steps.{Edge, step}
+use Rattle.grid.specs.Steps.{step}
 use Rattle.grid.specs.Cycles.{cycleFrom}
 use Rattle.grid.specs.Undoing.{digit-below-four}
 use Rattle.grid.specs.Returning.{Ring, ring}
 use Rattle.grid.specs.Closing.{others, cycle-first}
-use Rattle.steps.specs.Look.{mapAt, Square, at-margin}
+use Rattle.steps.specs.Look.{mapAt, at-margin}
 use Rattle.cycles.specs.Marks.{mark, marks}
-use Rattle.steps.specs.Rule.{Way, way}
 use Rattle.cycles.specs.Points.{EdgeAt, at-start, not-at-start}
-use Rattle.cycles.specs.Rounds.{rest, leftAfter, rest-none, Underway, set-out, square-here, edge-here, past, rest-first, less, onward, all-marked}
+use Rattle.cycles.specs.Rounds.{FirstEdge, rest, leftAfter, rest-none, Underway, set-out, square-here, edge-here, past, rest-first, onward, all-marked}
 use Rattle.cycles.specs.Areas.{areaBound, edge-leg, edge-aligned}
-use Rattle.cycles.specs.Straight.{Straight, turning, straight-on, Gone}
+use Rattle.cycles.specs.Straight.{Straight, turning, straight-on, Gone, not-first, run-done}
 
 -- The corners of the cycle through the edge s of a map, whose direction differs from that of the edge before.
 unfoldable pub cornersFrom : (ℕ → ℕ → ℕ) → ℕ → List ℕ
 unfolding tail digit turns others
 cornersFrom m s = tail s ∷ turns (digit s) (others m s)
 
--- The direction of the edge s of the region r differs from that of the edge before, and there is room for the corners of its cycle.
+-- A walk may begin with the edge s, and there is room for the corners of its cycle.
 pub record Ready (side r s : ℕ) (map out : List ℕ) : Type 0 where
-  pub square : Square side map
-  pub on-region : Edge (mapAt side map) r s
+  pub first : FirstEdge side r s map
   pub room : length (cornersFrom (mapAt side map) s) ≤ length out
-  pub corner : (e : ℕ) → Edge (mapAt side map) r e → step (mapAt side map) e ≡ s → digit e ≢ digit s
 
 -- They are written, sum is the area of the cycle, within the bound, and its eastward edges are marked.
 pub record CycleWalked (side r s : ℕ) (map out map′ out′ : List ℕ) (k : ℕ) (sum : ℤ) : Type 0 where
@@ -73,12 +70,12 @@ PastEdge side r s map₀ out₀ map out used d e sum = CycleUnderway side r s ma
 
 module _ {side r s : ℕ} {map₀ out₀ : List ℕ} (ready : Ready side r s map₀ out₀) where
   margin-here : Margin (mapAt side map₀)
-  margin-here = at-margin side map₀ (ready .square .small)
+  margin-here = at-margin side map₀ (ready .first .square .small)
 
   begin : AtEdge side r s map₀ out₀ map₀ out₀ 0 4 s (pos 0)
   unfolding rest cornersFrom others area
   begin = record {
-    round = set-out (ready .square) 0 (ready .on-region);
+    round = set-out (ready .first .square) 0 (ready .first .on-region);
     wide = refl;
     done = [];
     so-far = refl;
@@ -123,7 +120,7 @@ module _ {side r s : ℕ} {map₀ out₀ : List ℕ} (ready : Ready side r s map
         → PastEdge side r s map₀ out₀ map′ out used d e′ (sum +ℤ legBetween (tail e) (tail e′))
     unfolding next
     pass {map′} {e′} same hm here = record {
-      round = past (ready .square) (g .round) hm here;
+      round = past (ready .first .square) (g .round) hm here;
       wide = g .wide;
       done = g .done;
       so-far = g .so-far;
@@ -139,21 +136,21 @@ module _ {side r s : ℕ} {map₀ out₀ : List ℕ} (ready : Ready side r s map
   module _ {map out : List ℕ} {used d e : ℕ} {sum : ℤ} (p : PastEdge side r s map₀ out₀ map out used d e sum) where
     again : e ≢ s → AtEdge side r s map₀ out₀ map out used d e sum
     again n = record {
-      round = onward (ready .square) (p .round) n;
+      round = onward (ready .first .square) (p .round) n;
       wide = p .wide;
       done = p .done;
       so-far = p .so-far;
       list = p .list;
-      total = ap (λ t. p .done ++ turns d t) (sym (rest-first (ready .square) (p .round) n)) ∙ p .total;
+      total = ap (λ t. p .done ++ turns d t) (sym (rest-first (ready .first .square) (p .round) n)) ∙ p .total;
       walked = p .walked;
-      whole = ap (λ t. p .walked ++ t) (sym (rest-first (ready .square) (p .round) n)) ∙ p .whole;
+      whole = ap (λ t. p .walked ++ t) (sym (rest-first (ready .first .square) (p .round) n)) ∙ p .whole;
       added = p .added;
     }
 
     -- Along the way the area stays within the bound.
     sum-size : natAbs sum ≤ areaBound
     sum-size =
-        let g : Ring (mapAt side map₀) r s = ring (mapAt side map₀) margin-here r s (ready .on-region) in
+        let g : Ring (mapAt side map₀) r s = ring (mapAt side map₀) margin-here r s (ready .first .on-region) in
         omega (
           arith,
           ap natAbs (p .added),
@@ -174,30 +171,25 @@ module _ {side r s : ℕ} {map₀ out₀ : List ℕ} (ready : Ready side r s map
           list = p .list ∙ ap (λ l. over l out₀) t;
           its-area = p .added ∙ ap area (sym (append-nil (p .walked)) ∙ ap (λ l. p .walked ++ l) (sym z) ∙ p .whole);
           area-low = sum-size;
-          marked = all-marked (ready .square) (p .round) h;
+          marked = all-marked (ready .first .square) (p .round) h;
         }
 
   -- Straight on from the edge e, whose corner is written.
   record Through (map′ out : List ℕ) (used d e e′ : ℕ) (sum : ℤ) : Type 0 where
     pub passed : PastEdge side r s map₀ out₀ map′ out used d e′ (sum +ℤ legBetween (tail e) (tail e′))
     pub aligned : Aligned d (tail e) (tail e′)
-    pub turned : d ≢ digit e′
-    pub shorter : e′ ≢ s → length (rest (mapAt side map₀) s (step (mapAt side map₀) e′)) < length (rest (mapAt side map₀) s (step (mapAt side map₀) e))
 
-  through : {map map′ out : List ℕ} {used d e e′ : ℕ} {sum : ℤ} → Straight side r (mapAt side map₀) map′ e′ map e → d ≡ digit e
+  through : {map map′ out : List ℕ} {used d e e′ : ℕ} {sum : ℤ} → Straight 0 side r (mapAt side map₀) map′ e′ map e → d ≡ digit e
       → AtEdge side r s map₀ out₀ map out used d e sum → Through map′ out used d e e′ sum
   through {map} {map′} {out} {used} {d} {e} {e′} {sum} (turning hm here n) same g =
-      let p : PastEdge side r s map₀ out₀ map′ out used d e′ (sum +ℤ legBetween (tail e) (tail e′)) = pass g same hm here in
       record {
-        passed = p;
+        passed = pass g same hm here;
         aligned = subst₂ (λ o a. Aligned o (tail e) (tail a)) (sym same) (sym here) (edge-aligned (mapAt side map₀) margin-here r e (g .round .on-region));
-        turned = λ h. n (sym h ∙ same);
-        shorter = λ o. subst (λ a. length (rest (mapAt side map₀) s (step (mapAt side map₀) e′)) < length (rest (mapAt side map₀) s a)) here (less (ready .square) (p .round) o);
       }
   through {map} {map′} {out} {used} {d} {e} {e′} {sum} (straight-on straight more) same g =
       let next : ℕ = step (mapAt side map₀) e in
       let p : PastEdge side r s map₀ out₀ (mark 0 side r map e) out used d next (sum +ℤ legBetween (tail e) (tail next)) = pass g same refl refl in
-      let o : next ≢ s = λ h. ready .corner e (g .round .on-region) h (sym straight ∙ ap digit h) in
+      let o : next ≢ s = not-first (ready .first) e (g .round .on-region) straight in
       let t : Through map′ out used d next e′ (sum +ℤ legBetween (tail e) (tail next)) = through more (same ∙ sym straight) (again p o) in
       let first : Aligned d (tail e) (tail next) = subst (λ a. Aligned a (tail e) (tail next)) (sym same) (edge-aligned (mapAt side map₀) margin-here r e (g .round .on-region)) in
       record {
@@ -206,8 +198,6 @@ module _ {side r s : ℕ} {map₀ out₀ : List ℕ} (ready : Ready side r s map
             (+ℤ-assoc sum (legBetween (tail e) (tail next)) (legBetween (tail next) (tail e′)) ∙ ap (λ z. sum +ℤ z) (legs-joined d (tail e) (tail next) (tail e′) first (t .aligned)))
             (t .passed);
         aligned = aligned-then first (t .aligned);
-        turned = t .turned;
-        shorter = λ n. omega (arith, t .shorter n, less (ready .square) (p .round) o);
       }
 
 -- Before a run: a corner is due at (x, y), where the edge with the digit d begins, and sum is the area so far.
@@ -227,7 +217,7 @@ module _ {side r s : ℕ} {map₀ out₀ map out : List ℕ} {used x y d : ℕ} 
   due-room = room-here ready (w .going) corner-due
 
   pub due-at : EdgeAt side r map x y d
-  due-at = record { square = square-here (ready .square) (w .going .round); x-low = w .x-low; low = w .low; on-region = edge-here (ready .square) (w .going .round) }
+  due-at = record { square = square-here (ready .first .square) (w .going .round); x-low = w .x-low; low = w .low; on-region = edge-here (ready .first .square) (w .going .round) }
 
 -- The area with what the run from (x, y) to the row y′ adds.
 abbrev pub withLeg : ℤ → ℕ → ℕ → ℕ → ℤ
@@ -255,19 +245,16 @@ module _ {side r : ℕ} (column row : ℕ) {map₀ out₀ : List ℕ} (ready : R
   pub due-at-start : column < 512 → CornerDue side r (edge (point column row) 0) map₀ out₀ map₀ out₀ 0 (pos 0) column row 0
   due-at-start h = record { x-low = h; low = omega arith; before = 4; due = omega arith; going = begin ready }
 
-  pub start-low : column < 512 → Way column row 0
-  start-low h = way (mapAt side map₀) (at-margin side map₀ (ready .square .small)) r column row 0 h (omega arith) (ready .on-region)
-
   module _ {map out : List ℕ} {used x y d : ℕ} {sum : ℤ} (w : CornerDue side r (edge (point column row) 0) map₀ out₀ map out used sum x y d) where
-    pub one-corner-more : {map′ : List ℕ} {x′ y′ d′ : ℕ} (used′ : ℕ) → used + 1 ≡ used′ → Gone side r map x y d map′ x′ y′ d′
+    pub one-corner-more : {map′ : List ℕ} {x′ y′ d′ : ℕ} (used′ : ℕ) → used + 1 ≡ used′ → Gone 0 side r map x y d map′ x′ y′ d′
         → OneCornerMore side r column row map₀ out₀ map′ (set out used (point x y)) used′ (withLeg sum x y y′) x y d x′ y′ d′
     unfolding leftAfter
     one-corner-more {map′} {x′} {y′} {d′} used′ one gone =
         let here : ℕ = edge (point x y) d in
         let there : ℕ = edge (point x′ y′) d′ in
+        let run : Straight 0 side r (mapAt side map₀) map′ there map here = subst (λ m. Straight 0 side r m map′ there map here) (w .going .round .same-map) (gone .straight) in
         let t : Through ready map′ (set out used (point x y)) used′ (digit here) here there sum =
-        through ready (subst (λ m. Straight side r m map′ there map here) (w .going .round .same-map) (gone .straight)) refl
-        (subst₂ (λ p k. AtEdge side r (edge (point column row) 0) map₀ out₀ map (set out used p) k (digit here) here sum)
+        through ready run refl (subst₂ (λ p k. AtEdge side r (edge (point column row) 0) map₀ out₀ map (set out used p) k (digit here) here sum)
         (tail-edge (point x y) d (w .low)) one (push ready (w .going) (corner-due ready w))) in
         let leg-here : legBetween (tail here) (tail there) ≡ legArea x y y′ =
         ap₂ legBetween (tail-edge (point x y) d (w .low)) (tail-edge (point x′ y′) d′ (gone .low))
@@ -289,10 +276,10 @@ module _ {side r : ℕ} (column row : ℕ) {map₀ out₀ : List ℕ} (ready : R
             x-low = omega (arith, gone .x-low);
             low = gone .low;
             before = digit here;
-            due = λ h. t .turned (h ∙ sym (digit-edge (point x′ y′) d′ (gone .low)));
+            due = λ h. gone .turned (ap (λ (o : ℕ). o % 2) (sym h ∙ digit-edge (point x y) d (w .low)));
             going = again ready (passed sum′ e) (not-at-start column row x′ y′ d′ n);
           };
-          shorter = λ n. t .shorter (not-at-start column row x′ y′ d′ n);
+          shorter = λ n. run-done (ready .first) run (w .going .round) .shorter (not-at-start column row x′ y′ d′ n);
         }
 
     -- After the run along a row the start, an eastward edge, is not reached: a corner is due, where a run along a column begins.
@@ -301,7 +288,7 @@ module _ {side r : ℕ} (column row : ℕ) {map₀ out₀ : List ℕ} (ready : R
       pub due : CornerDue side r (edge (point column row) 0) map₀ out₀ map′ (set out used (point x y)) (used + 1) sum x′ y′ d′
       pub nearer : leftAfter side (edge (point column row) 0) map₀ x′ y′ d′ < leftAfter side (edge (point column row) 0) map₀ x y d
 
-    pub row-done : {map′ : List ℕ} {x′ y′ d′ : ℕ} → d % 2 ≡ 0 → Gone side r map x y d map′ x′ y′ d′ → ColumnDue map′ x′ y′ d′
+    pub row-done : {map′ : List ℕ} {x′ y′ d′ : ℕ} → d % 2 ≡ 0 → Gone 0 side r map x y d map′ x′ y′ d′ → ColumnDue map′ x′ y′ d′
     row-done {map′} {x′} {y′} {d′} even gone =
         let t = one-corner-more (used + 1) refl gone in
         let odd : d′ % 2 ≡ 1 = omega (arith, gone .turned) in

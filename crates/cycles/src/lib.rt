@@ -32,7 +32,7 @@ struct Edge {
 // Goes straight on from the edge at (column, row) with the digit d up to the first turn; gives the edge after it.
 fn straight(map: &mut [u32], side: u32, r: u32, column: u32, row: u32, d: u8) -> Edge
     requires { ⌜ EdgeAt side r (now map) column row d ⌝ }
-    ensures { λ e. ⌜ Gone side r (now (map .entry)) column row d (now (map .exit)) (e .x) (e .y) (e .d) ⌝ }
+    ensures { λ e. ⌜ Gone 0 side r (now (map .entry)) column row d (now (map .exit)) (e .x) (e .y) (e .d) ⌝ }
 {
     let mut x = column;
     let mut y = row;
@@ -54,7 +54,7 @@ fn straight(map: &mut [u32], side: u32, r: u32, column: u32, row: u32, d: u8) ->
 // The same along a row, with the digit written out at each call, so that each direction has a loop of its own.
 fn along_row(map: &mut [u32], side: u32, r: u32, x: u32, y: u32, d: u8) -> Edge
     requires { ⌜ EdgeAt side r (now map) x y d × (d % 2 ≡ 0) ⌝ }
-    ensures { λ e. ⌜ Gone side r (now (map .entry)) x y d (now (map .exit)) (e .x) (e .y) (e .d) ⌝ }
+    ensures { λ e. ⌜ Gone 0 side r (now (map .entry)) x y d (now (map .exit)) (e .x) (e .y) (e .d) ⌝ }
 {
     match d {
         0 => straight(map, side, r, x, y, 0),
@@ -65,7 +65,7 @@ fn along_row(map: &mut [u32], side: u32, r: u32, x: u32, y: u32, d: u8) -> Edge
 // The same along a column.
 fn along_column(map: &mut [u32], side: u32, r: u32, x: u32, y: u32, d: u8) -> Edge
     requires { ⌜ EdgeAt side r (now map) x y d × (d % 2 ≡ 1) ⌝ }
-    ensures { λ e. ⌜ Gone side r (now (map .entry)) x y d (now (map .exit)) (e .x) (e .y) (e .d) ⌝ }
+    ensures { λ e. ⌜ Gone 0 side r (now (map .entry)) x y d (now (map .exit)) (e .x) (e .y) (e .d) ⌝ }
 {
     match d {
         1 => straight(map, side, r, x, y, 1),

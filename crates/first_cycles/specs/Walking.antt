@@ -1,8 +1,8 @@
--- The walk along one cycle that marks its westward edges: the place of a mark, what holds at the loop's head, and that a turn keeps it.
+-- The walk along one cycle that marks its westward edges: the place of a mark, what holds before each run, and that a run keeps it.
 use mathlib.Core.Path.{_≡_, sym, ap, _∙_, subst, subst₂}
 use mathlib.Core.Logic.{_≢_}
 use mathlib.Core.List.{List}
-use Prim.Native.Nat.{ℕ, _+_, _-_, _*_, _%_, _≤_, _<_}
+use Prim.Native.Nat.{ℕ, _+_, _-_, _*_, _%_, _<_}
 use native.Mathlib.Omega.{arith}
 use lib.ListN.{length, getD}
 use Rattle.interleaving.specs.Codes.{code}
@@ -10,16 +10,16 @@ use Rattle.location.specs.Levels.{sideOf}
 use Rattle.lattice.specs.Directions.{point, xOf, yOf, edge}
 use Rattle.lattice.specs.Outlines.{x-of-point, y-of-point, tail-edge, digit-edge}
 use Rattle.grid.specs.Map.{around}
-use Rattle.grid.specs.Steps.{Side, turn, step}
+use Rattle.grid.specs.Steps.{Side}
 use Rattle.grid.specs.Undoing.{fits}
 use Rattle.grid.specs.Cycles.{cycleFrom}
 use Rattle.grid.specs.Sides.{rightX, rightY}
 use Rattle.steps.specs.Look.{markBit, mapAt, at-margin}
-use Rattle.steps.specs.Rule.{moveX, moveY, Moved}
-use Rattle.cycles.specs.Marks.{mark, marks}
-use Rattle.cycles.specs.Points.{EdgeAt, MarkPlace, mark-place, moved-on, stepped, at-start, not-at-start}
-use Rattle.cycles.specs.Rounds.{rest, leftAfter, Before, After, set-out, square-here, edge-here, past, less, onward, all-marked}
-use Rattle.cycles.specs.NorthEdges.{NorthEdge, CycleMarked, edge-at-pixel, cycle-marked, side-here}
+use Rattle.cycles.specs.Marks.{marks}
+use Rattle.cycles.specs.Points.{EdgeAt, MarkPlace, mark-place, at-start, not-at-start}
+use Rattle.cycles.specs.Rounds.{FirstEdge, leftAfter, Before, set-out, square-here, edge-here, onward, all-marked}
+use Rattle.cycles.specs.Straight.{Straight, Gone, RunDone, run-done}
+use Rattle.cycles.specs.CycleStarts.{CycleStart, CycleMarked, first-edge, cycle-marked, side-here}
 
 -- The mark of a westward edge, as the code finds its place: one column and one row back.
 pub record WestPlace (side r : ℕ) (map : List ℕ) (x y d : ℕ) : Type 0 where
@@ -41,14 +41,14 @@ west-place {side} {r} {x} {y} {d} {map} a z =
       place = mark-place a z (ap (λ v. v - 1) ex) (ap (λ v. v - 1) ey);
     }
 
--- At the loop's head: the edge from (x, y) with the digit d is the next one.
+-- Before a run: the edge from (x, y) with the digit d is the next one.
 pub record NextEdge (side r s : ℕ) (map₀ map : List ℕ) (x y d : ℕ) : Type 0 where
   pub x-low : x < 512
   pub low : d < 4
   pub round : Before 2 side r s map₀ map (edge (point x y) d)
 
--- After one edge more, before the test for the start (column, row).
-pub record OneEdgeMore (side r column row : ℕ) (map₀ map : List ℕ) (x y d x′ y′ d′ : ℕ) : Type 0 where
+-- After one run more, before the test for the start (column, row).
+pub record OneRunMore (side r column row : ℕ) (map₀ map : List ℕ) (x y d x′ y′ d′ : ℕ) : Type 0 where
   pub small : 4 * (512 * y′ + x′) + d′ < 1048576
   pub long : length map ≡ length map₀
   pub ends : 4 * (512 * y′ + x′) + d′ ≡ 4 * (512 * row + column)
@@ -57,35 +57,44 @@ pub record OneEdgeMore (side r column row : ℕ) (map₀ map : List ℕ) (x y d 
   pub shorter : 4 * (512 * y′ + x′) + d′ ≢ 4 * (512 * row + column)
       → leftAfter side (edge (point column row) 0) map₀ x′ y′ d′ < leftAfter side (edge (point column row) 0) map₀ x y d
 
-module _ {side r column row : ℕ} {map₀ : List ℕ} (start : EdgeAt side r map₀ column row 0) where
-  pub at-first : NextEdge side r (edge (point column row) 0) map₀ map₀ column row 0
-  at-first = record { x-low = start .x-low; low = omega arith; round = set-out (start .square) 2 (start .on-region) }
+module _ {side r : ℕ} {map₀ : List ℕ} (column row : ℕ) (first : FirstEdge side r (edge (point column row) 0) map₀) where
+  pub at-first : column < 512 → NextEdge side r (edge (point column row) 0) map₀ map₀ column row 0
+  at-first h = record { x-low = h; low = omega arith; round = set-out (first .square) 2 (first .on-region) }
 
   module _ {map : List ℕ} {x y d : ℕ} (w : NextEdge side r (edge (point column row) 0) map₀ map x y d) where
     pub edge-at : EdgeAt side r map x y d
-    edge-at = record { square = square-here (start .square) (w .round); x-low = w .x-low; low = w .low; on-region = edge-here (start .square) (w .round) }
+    edge-at = record { square = square-here (first .square) (w .round); x-low = w .x-low; low = w .low; on-region = edge-here (first .square) (w .round) }
 
-    pub one-edge-more : {map′ : List ℕ} {x′ y′ d′ : ℕ} → map′ ≡ mark 2 side r map (edge (point x y) d) → x′ ≡ moveX x d → y′ ≡ moveY y d
-        → (d′ ≡ turn (mapAt side map′) r (point x′ y′) d) × (d′ < 4) → OneEdgeMore side r column row map₀ map′ x y d x′ y′ d′
+    pub one-run-more : {map′ : List ℕ} {x′ y′ d′ : ℕ} → Gone 2 side r map x y d map′ x′ y′ d′ → OneRunMore side r column row map₀ map′ x y d x′ y′ d′
     unfolding leftAfter
-    one-edge-more {map′} {x′} {y′} {d′} hm hx hy hd =
-        let moved : Moved x y d x′ y′ = moved-on edge-at hx hy in
-        let next : edge (point x′ y′) d′ ≡ step (mapAt side map₀) (edge (point x y) d) =
-        stepped edge-at 2 hm hx hy (hd .0) ∙ ap (λ m. step m (edge (point x y) d)) (w .round .same-map) in
-        let p : After 2 side r (edge (point column row) 0) map₀ map′ (edge (point x′ y′) d′) = past (start .square) (w .round) hm next in
+    one-run-more {map′} {x′} {y′} {d′} gone =
+        let t : RunDone 2 side r (edge (point column row) 0) map₀ map′ (edge (point x y) d) (edge (point x′ y′) d′) =
+        run-done first (subst (λ m. Straight 2 side r m map′ (edge (point x′ y′) d′) map (edge (point x y) d)) (w .round .same-map) (gone .straight)) (w .round) in
         record {
-          small = omega (arith, moved .x-low, moved .y-low, hd .1);
-          long = p .long;
-          ends = λ h. all-marked (start .square) p (at-start column row x′ y′ d′ h);
-          again = λ n. record { x-low = omega (arith, moved .x-low); low = hd .1; round = onward (start .square) p (not-at-start column row x′ y′ d′ n) };
-          shorter = λ n. subst (λ e. leftAfter side (edge (point column row) 0) map₀ x′ y′ d′ < length (rest (mapAt side map₀) (edge (point column row) 0) e)) next
-              (less (start .square) p (not-at-start column row x′ y′ d′ n));
+          small = omega (arith, gone .x-low, gone .y-low, gone .low);
+          long = t .round .long;
+          ends = λ h. all-marked (first .square) (t .round) (at-start column row x′ y′ d′ h);
+          again = λ n. record { x-low = omega (arith, gone .x-low); low = gone .low; round = onward (first .square) (t .round) (not-at-start column row x′ y′ d′ n) };
+          shorter = λ n. t .shorter (not-at-start column row x′ y′ d′ n);
         }
 
+    -- After a run along a row the start, an eastward edge, is not reached.
+    pub record ColumnNext (map′ : List ℕ) (x′ y′ d′ : ℕ) : Type 0 where
+      pub odd : d′ % 2 ≡ 1
+      pub next : NextEdge side r (edge (point column row) 0) map₀ map′ x′ y′ d′
+      pub nearer : leftAfter side (edge (point column row) 0) map₀ x′ y′ d′ < leftAfter side (edge (point column row) 0) map₀ x y d
+
+    pub row-done : {map′ : List ℕ} {x′ y′ d′ : ℕ} → d % 2 ≡ 0 → Gone 2 side r map x y d map′ x′ y′ d′ → ColumnNext map′ x′ y′ d′
+    row-done {map′} {x′} {y′} {d′} even gone =
+        let t = one-run-more gone in
+        let odd : d′ % 2 ≡ 1 = omega (arith, gone .turned) in
+        let elsewhere : 4 * (512 * y′ + x′) + d′ ≢ 4 * (512 * row + column) = λ h. omega arith in
+        record { odd = odd; next = t .again elsewhere; nearer = t .shorter elsewhere }
+
 -- From the walk in the code's numbers to the cycle of the definitions, with the code's side.
-module _ {n x y side : ℕ} {map : List ℕ} (h : NorthEdge n map x y) (e : side ≡ sideOf n) where
-  pub ready-to-walk : EdgeAt side (getD map (y * side + x) 0 % markBit) map x y 0
-  ready-to-walk = subst (λ s. EdgeAt s (getD map (y * s + x) 0 % markBit) map x y 0) (sym (side-here h e)) (edge-at-pixel h)
+module _ {n x y side : ℕ} {map : List ℕ} (h : CycleStart n map x y) (e : side ≡ sideOf n) where
+  pub ready-to-walk : FirstEdge side (getD map (y * side + x) 0 % markBit) (edge (point x y) 0) map
+  ready-to-walk = subst (λ s. FirstEdge s (getD map (y * s + x) 0 % markBit) (edge (point x y) 0) map) (sym (side-here h e)) (first-edge h)
 
   pub walk-is-cycle : {map′ : List ℕ}
       → map′ ≡ marks 2 side (getD map (y * side + x) 0 % markBit) (cycleFrom (mapAt side map) (edge (point x y) 0)) map → CycleMarked 2 n map (code n x y) map′

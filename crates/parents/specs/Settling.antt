@@ -21,7 +21,7 @@ use Rattle.components.specs.Numbers.{numbers, regions}
 use Rattle.components.specs.Numbered.{number-below-regions, regions-at-most-pixels}
 use Rattle.steps.specs.Look.{markBit}
 use Rattle.cycles.specs.Mapped.{numsOf, Mapped, Marked, same-nums}
-use Rattle.cycles.specs.NorthEdges.{NorthEdge, CycleMarked}
+use Rattle.cycles.specs.CycleStarts.{CycleStart, CycleMarked}
 use Rattle.forests.specs.Finding.{placeOf}
 use Rattle.surrounding.specs.SouthSides.{southSide}
 use Rattle.surrounding.specs.Parents.{firstCycle, parentOf}
@@ -94,13 +94,13 @@ module _ {n s c : ℕ} {work : List ℕ} (ok : RegionNext n s c work) where
         least-stored : LeastPixel n (numsOf n stored) (code n x y)
         least-stored = subst (λ (m : List ℕ). LeastPixel n m (code n x y)) (sym stored-numbers) (least-here .least)
 
-        pub cycle-starts : NorthEdge n stored x y
+        pub cycle-starts : CycleStart n stored x y
         cycle-starts = record {
           small = small;
           mapped = stored-mapped;
           x-inside = least-here .x-inside;
           y-inside = least-here .y-inside;
-          north = least-starts n (numsOf n stored) small (code n x y) least-stored .north;
+          starts = least-starts n (numsOf n stored) small (code n x y) least-stored;
         }
 
         module _ {work′ : List ℕ} (w : CycleMarked 2 n stored (code n x y) work′) where

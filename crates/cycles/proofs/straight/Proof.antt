@@ -8,7 +8,7 @@ use Rattle.cycles.proofs.straight.Statement.{statement}
 use Rattle.cycles.proofs.straight.Tie as tie
 
 abbrev Inv-loop : tie.InvT-loop
-Inv-loop map₀ side r column row d x₀ y₀ map x y = Onward side r map₀ column row map x y d
+Inv-loop map₀ side r column row d x₀ y₀ map x y = Onward 0 side r map₀ column row map x y d
 
 abbrev μ-loop : tie.MeasureT-loop
 μ-loop map₀ side r column row d x₀ y₀ map x y = unitsAhead x y d
@@ -47,7 +47,7 @@ turn-done : (c : tie.After-next-digit Inv-loop μ-loop) →
     let m = marks-made (c .before) in
     let l = head m .loop in
     let a = head m .before .before .args in
-    OneFurther (a .side) (a .r) (a .map .now) (a .column) (a .row) (m .mark-east .last .0) (l .x) (l .y) (a .d)
+    OneFurther 0 (a .side) (a .r) (a .map .now) (a .column) (a .row) (m .mark-east .last .0) (l .x) (l .y) (a .d)
     (c .before .before .before .next-x .result) (c .before .before .next-y .result) (c .next-digit .result)
 turn-done c =
     let m = marks-made (c .before) in

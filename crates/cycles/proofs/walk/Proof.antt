@@ -12,8 +12,8 @@ use Rattle.steps.specs.Rule.{Way}
 use Rattle.cycles.specs.Points.{EdgeAt, way-at}
 use Rattle.sequences.specs.SignedBits.{fits, read-back}
 use Rattle.cycles.specs.Areas.{areaBound, leg-size}
-use Rattle.cycles.specs.Rounds.{leftAfter}
-use Rattle.cycles.specs.Walking.{CornerDue, withLeg, due-at-start, start-low, due-room, due-at, OneCornerMore, one-corner-more, ColumnDue, row-done}
+use Rattle.cycles.specs.Rounds.{start-low, leftAfter}
+use Rattle.cycles.specs.Walking.{CornerDue, withLeg, due-at-start, due-room, due-at, OneCornerMore, one-corner-more, ColumnDue, row-done}
 use borrow.Author.Needs.{needs}
 use Rattle.cycles.proofs.walk.Statement.{statement}
 use Rattle.cycles.proofs.walk.Tie as tie
@@ -179,7 +179,7 @@ add-if1-2 c = omega (arith, turn-done (after-column c) .low)
 
 -- The start lies in the image.
 start-here : (c : tie.After-leg-area Inv-loop μ-loop) → let a = entry (sum-before c) .args in Way (a .column) (a .row) 0
-start-here c = let b = entry (sum-before c) in start-low (b .args .column) (b .args .row) (b .pre .0) (b .pre .1)
+start-here c = let b = entry (sum-before c) in start-low (b .args .column) (b .args .row) (b .pre .0 .first) (b .pre .1)
 
 mul-if1-3 : tie.Need-mul-if1-3 Inv-loop μ-loop
 mul-if1-3 c = let w = start-here c in omega (arith, w .x-low, w .y-low)

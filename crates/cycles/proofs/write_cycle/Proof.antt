@@ -1,7 +1,7 @@
 -- The list's map with a margin is that of the numbers it holds, so the walk is along the cycle of the definition.
 use native.Mathlib.Omega.{arith}
-use Rattle.cycles.specs.NorthEdges.{PixelBounds, pixel-bounds}
-use Rattle.cycles.specs.Written.{north-edge, ready-to-walk, walk-is-cycle}
+use Rattle.cycles.specs.CycleStarts.{PixelBounds, pixel-bounds}
+use Rattle.cycles.specs.Written.{cycle-start, ready-to-walk, walk-is-cycle}
 use borrow.Author.Needs.{needs}
 use Rattle.cycles.proofs.write_cycle.Statement.{statement}
 use Rattle.cycles.proofs.write_cycle.Tie as tie
@@ -13,8 +13,8 @@ entry c = c .before .before .before
 abbrev at-side : tie.After-walk-arg2 → tie.After-side
 at-side c = c .before .before .before
 
-bounds : (c : tie.After-side) → PixelBounds (north-edge (entry c .pre)) (c .side .ensures)
-bounds c = pixel-bounds (north-edge (entry c .pre)) (c .side .ensures)
+bounds : (c : tie.After-side) → PixelBounds (cycle-start (entry c .pre)) (c .side .ensures)
+bounds c = pixel-bounds (cycle-start (entry c .pre)) (c .side .ensures)
 
 side-requires : tie.Need-side-requires
 side-requires c κs = search needs

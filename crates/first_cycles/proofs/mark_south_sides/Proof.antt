@@ -1,6 +1,6 @@
 -- The list's map with a margin is that of the numbers it holds, so the walk is along the cycle of the definition.
 use native.Mathlib.Omega.{arith}
-use Rattle.cycles.specs.NorthEdges.{PixelBounds, pixel-bounds}
+use Rattle.cycles.specs.CycleStarts.{PixelBounds, pixel-bounds}
 use Rattle.first_cycles.specs.Walking.{ready-to-walk, walk-is-cycle}
 use borrow.Author.Needs.{needs}
 use Rattle.first_cycles.proofs.mark_south_sides.Statement.{statement}
@@ -38,7 +38,7 @@ slice-read-r : tie.Need-slice-read-r
 slice-read-r c = bounds (c .before) .inside
 
 walk-requires : tie.Need-walk-requires
-walk-requires c κs = let s = at-side c in ready-to-walk (entry s .pre) (s .side .ensures)
+walk-requires c κs = let s = at-side c in (ready-to-walk (entry s .pre) (s .side .ensures), omega (arith, bounds s .x-low))
 
 same-length : tie.Need-same-length
 same-length c = search needs

@@ -1,6 +1,6 @@
--- The cycle through the north side of a pixel of the map that a list holds, and what the marks of its edges with the digit k leave.
+-- The cycle that starts at a pixel of the map that a list holds, and what the marks of its edges with the digit k leave.
 use mathlib.Core.Path.{_≡_, sym, ap, ap₂, _∙_, subst, subst₂}
-use mathlib.Core.Logic.{_⊎_, inl, inr, _↔_}
+use mathlib.Core.Logic.{_≢_, _⊎_, inl, inr, _↔_}
 use mathlib.Core.List.{List}
 use Prim.Native.Nat.{ℕ, zero, suc, _+_, _*_, _/_, _%_, _^_, _≤_, _<_}
 use native.Mathlib.Omega.{arith}
@@ -11,31 +11,34 @@ use Rattle.interleaving.specs.Codes.{code, column, row}
 use Rattle.interleaving.specs.Interleaving.{column-below, column-of-code, row-of-code}
 use Rattle.location.specs.Levels.{sideOf, side-is-power}
 use Rattle.quadtree.specs.Raster.{place}
-use Rattle.lattice.specs.Directions.{point, xOf, yOf, edge, tail}
+use Rattle.lattice.specs.Directions.{point, xOf, yOf, edge, tail, digit}
+use Rattle.lattice.specs.Walks.{lastOf}
 use Rattle.orbits.specs.Members.{In}
 use Rattle.grid.specs.Map.{regionAt}
-use Rattle.grid.specs.Steps.{Edge}
-use Rattle.grid.specs.Undoing.{no-digit}
+use Rattle.grid.specs.Margins.{Margin}
+use Rattle.grid.specs.Steps.{Edge, step}
+use Rattle.grid.specs.Undoing.{no-digit, back, back-step}
 use Rattle.grid.specs.Cycles.{cycleFrom, cornerOf, northSide, cycle}
 use Rattle.grid.specs.Sides.{sideAt, side-parts, rightX, rightY}
 use Rattle.grid.specs.North.{side-small}
 use Rattle.grid.specs.Returning.{ring}
-use Rattle.grid.specs.Starting.{margin}
+use Rattle.grid.specs.Starting.{StartAt, margin}
+use Rattle.grid.specs.Closing.{others, Last, last-edge, start-turns}
 use Rattle.steps.specs.Look.{markBit, mapAt, Square, row-small}
 use Rattle.cycles.specs.Mapped.{numsOf, Mapped, Marked, entry-of-pixel, same-nums, map-is-region}
 use Rattle.cycles.specs.Marks.{spot, marks, length-marks, Held, held-edges, RightPixel, right-pixel, MarkOf}
 use Rattle.cycles.specs.Marks.{marks-same, marks-bounded, marks-beyond, marks-keep, marks-set, marks-tell}
-use Rattle.cycles.specs.Points.{EdgeAt}
+use Rattle.cycles.specs.Rounds.{FirstEdge}
 
--- The north side of the pixel (x, y) of the map is an edge of its region.
-pub record NorthEdge (n : ℕ) (map : List ℕ) (x y : ℕ) : Type 0 where
+-- A cycle starts at the pixel (x, y) of the map.
+pub record CycleStart (n : ℕ) (map : List ℕ) (x y : ℕ) : Type 0 where
   pub small : n ≤ 8
   pub mapped : Mapped n map
   pub x-inside : x < 2 ^ n
   pub y-inside : y < 2 ^ n
-  pub north : Edge (regionAt n (numsOf n map)) (suc (getD (numsOf n map) (code n x y) 0)) (northSide n (code n x y))
+  pub starts : StartAt n (numsOf n map) (code n x y)
 
--- The edges with the digit k of the cycle through the north side of the pixel with the code c are marked. So the map's numbers and what lies
+-- The edges with the digit k of the cycle that starts at the pixel with the code c are marked. So the map's numbers and what lies
 -- beyond it are as they were, and marked are the pixels that were and those whose sides in the direction k are on the cycle.
 pub record CycleMarked (k n : ℕ) (map : List ℕ) (c : ℕ) (map′ : List ℕ) : Type 0 where
   pub in-map : map′ ≡ marks k (2 ^ n) (suc (getD (numsOf n map) c 0)) (cycle n (numsOf n map) c) map
@@ -54,7 +57,7 @@ right-of-side x y (suc (suc zero)) h l = (omega arith, omega arith)
 right-of-side x y (suc (suc (suc zero))) h l = (omega arith, omega arith)
 right-of-side x y (suc (suc (suc (suc k)))) h l = no-digit k l
 
-module _ {n x y : ℕ} {map : List ℕ} (h : NorthEdge n map x y) where
+module _ {n x y : ℕ} {map : List ℕ} (h : CycleStart n map x y) where
   -- The numbers of the pixels and the map with a margin; of the pixel (x, y) the code, the north side, the region, the entry and the cycle.
   abbrev nums : List ℕ
   nums = numsOf n map
@@ -84,7 +87,7 @@ module _ {n x y : ℕ} {map : List ℕ} (h : NorthEdge n map x y) where
   unfolding northSide cornerOf
   north-here = ap₂ (λ a b. edge (point a b) 0) (column-of-code n x y (h .x-inside)) (row-of-code n x y (h .y-inside))
 
-  pub region-here : entry-here ≡ region
+  region-here : entry-here ≡ region
   region-here = entry-of-pixel n map x y (h .mapped) (h .x-inside) (h .y-inside)
 
   pub its-edges : cycleFrom (mapAt (2 ^ n) map) (edge (point x y) 0) ≡ edges
@@ -94,24 +97,35 @@ module _ {n x y : ℕ} {map : List ℕ} (h : NorthEdge n map x y) where
   square : Square (2 ^ n) map
   square = record { small = side-small n (h .small); room = omega (arith, h .mapped .long, square-of-side n) }
 
+  g : Margin m
+  g = margin n nums (h .small)
+
+  -- The start turns: a step leads to it from the last edge alone.
+  its-corner : (e : ℕ) → Edge m region e → step m e ≡ s → digit e ≢ digit s
+  its-corner e k q t =
+      let l : Last m s = last-edge m g region s (h .starts .north) in
+      let z : Edge m region (lastOf s (others m s)) = ring m g region s (h .starts .north) .edges (lastOf s (others m s)) (l .on-cycle) in
+      let same : e ≡ lastOf s (others m s) = sym (back-step m g region e k) ∙ ap (back m) (q ∙ sym (l .leads)) ∙ back-step m g region (lastOf s (others m s)) z in
+      start-turns n nums (h .small) c (h .starts) (ap digit (sym same) ∙ t)
+
   -- In the code's numbers.
-  pub edge-at-pixel : EdgeAt (2 ^ n) entry-here map x y 0
-  edge-at-pixel = record {
+  pub first-edge : FirstEdge (2 ^ n) entry-here (edge (point x y) 0) map
+  first-edge = record {
     square = square;
-    x-low = omega (arith, h .x-inside, side-small n (h .small));
-    low = omega arith;
-    on-region = subst (λ a. Edge a entry-here (edge (point x y) 0)) (sym same-map) (subst₂ (Edge m) (sym region-here) north-here (h .north));
+    on-region = subst (λ a. Edge a entry-here (edge (point x y) 0)) (sym same-map) (subst₂ (Edge m) (sym region-here) north-here (h .starts .north));
+    corner = λ e k q t. its-corner e (subst₂ (λ a r. Edge a r e) same-map region-here k)
+        (ap (λ a. step a e) (sym same-map) ∙ q ∙ sym north-here) (t ∙ ap digit (sym north-here));
   }
 
   -- The cycle keeps to the map.
   edge-of-cycle : (e : ℕ) → In e edges → Edge (mapAt (2 ^ n) map) entry-here e
   unfolding cycle
-  edge-of-cycle e i = subst₂ (λ a r. Edge a r e) (sym same-map) (sym region-here) (ring m (margin n nums (h .small)) region s (h .north) .edges e i)
+  edge-of-cycle e i = subst₂ (λ a r. Edge a r e) (sym same-map) (sym region-here) (ring m g region s (h .starts .north) .edges e i)
 
   module _ (k : ℕ) (low : k < 4) {map′ : List ℕ}
       (w : map′ ≡ marks k (2 ^ n) entry-here (cycleFrom (mapAt (2 ^ n) map) (edge (point x y) 0)) map) where
     held-here : Held k (2 ^ n) entry-here (2 ^ n * 2 ^ n) edges map
-    held-here = held-edges square k (edge (point x y) 0) edges (edge-at-pixel .on-region) edge-of-cycle
+    held-here = held-edges square k (edge (point x y) 0) edges (first-edge .on-region) edge-of-cycle
 
     its-marks : map′ ≡ marks k (2 ^ n) entry-here edges map
     its-marks = w ∙ ap (λ es. marks k (2 ^ n) entry-here es map) its-edges
