@@ -76,7 +76,7 @@ module _ (N : ℕ) (up : ℕ → ℕ) (low : ParentsBelow N up) where
   made : Appended N up N [] (orderFrom N up N 0 [])
   made = order-appends N up low N 0 [] (omega arith) (fresh-start N up)
 
-  pub all-in-order : (x : ℕ) → x < N → In x (leastOrder N up)
+  all-in-order : (x : ℕ) → x < N → In x (leastOrder N up)
   unfolding leastOrder
   all-in-order x h = pick (in-after x (orderFrom N up N 0 []) [] (all-placed (after (orderFrom N up N 0 []) []) (made .then) x h))
     where

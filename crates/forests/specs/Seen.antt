@@ -21,7 +21,7 @@ pub seen-none : (N : ℕ) (w : List ℕ) → N ≤ length w → ((v : ℕ) → v
 unfolding member
 seen-none N w long zeros = record { long = long; holds = λ v h. zeros v h ∙ sym (when-no false 1 refl) }
 
-pub seen-more : {N : ℕ} {before w : List ℕ} (v : ℕ) → v < N → Seen N before w → Seen N (v ∷ before) (set w v 1)
+seen-more : {N : ℕ} {before w : List ℕ} (v : ℕ) → v < N → Seen N before w → Seen N (v ∷ before) (set w v 1)
 seen-more {N} {before} {w} v h s = record { long = omega (arith, length-set w v 1, s .long); holds = λ a k. one a k (ℕ-discrete v a) }
   where
     one : (a : ℕ) → a < N → Dec (v ≡ a) → getD (set w v 1) a 0 ≡ when (member a (v ∷ before)) 1

@@ -208,7 +208,7 @@ module _ (N : ℕ) (up : ℕ → ℕ) where
           new g q (inl z) = omega (arith, low p g below q)
           new g q (inr i) = s .fresh p e (s .closed g i p below q)
 
-    pub climb-appends : (k v u : ℕ) (placed : List ℕ) → u ≤ k → Climbing v u placed → Appended (suc v) placed (climb N up placed k u)
+    climb-appends : (k v u : ℕ) (placed : List ℕ) → u ≤ k → Climbing v u placed → Appended (suc v) placed (climb N up placed k u)
     unfolding climb
     climb-appends zero v u placed h s = nothing (suc v) placed [] refl (climbed v u placed s (λ p e r. omega (arith, parent-lower v u placed s p e)))
     climb-appends (suc k) v u placed h s = from (up u) refl (λ p b t. climb-appends k v p (p ∷ placed) b t)

@@ -56,7 +56,7 @@ module _ (up : ℕ → ℕ) (placed : List ℕ) (p : ℕ) where
       pick (yes a) (no i) ih = omega (arith, missing-more c a i)
 
   -- Nothing is missing exactly when the test says so.
-  pub ready-is-none-missing : (k : ℕ) → ready up placed p k ≡ eqb (missing up placed p k) 0
+  ready-is-none-missing : (k : ℕ) → ready up placed p k ≡ eqb (missing up placed p k) 0
   unfolding ready missing
   ready-is-none-missing zero = refl
   ready-is-none-missing (suc c) = pick (ℕ-discrete (up c) (suc p)) (in-dec c placed) (ready-is-none-missing c)

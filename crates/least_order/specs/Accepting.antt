@@ -5,10 +5,9 @@ use Prim.Native.Nat.{ℕ, _≤_}
 use native.Mathlib.Omega.{arith}
 use lib.ListN.{length}
 use Rattle.sequences.specs.Over.{over}
-use Rattle.answers.specs.Put.{Put}
 use Rattle.quadtree.specs.Blocks.{blocks, paint}
 use Rattle.quadtree.specs.Accepted.{number-zero}
-use Rattle.components.specs.Numbers.{numbers, regions}
+use Rattle.components.specs.Numbers.{regions}
 use Rattle.regions.specs.Promise.{Numbering}
 use Rattle.regions.specs.Callers.{list-accepted, regions-at-exit, work-is-zero}
 use Rattle.regions.specs.declared.Numbered.{Numbered}

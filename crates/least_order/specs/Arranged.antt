@@ -54,14 +54,14 @@ pub record Rises (whole v at : ℕ) (work₀ order₀ work order : List ℕ) (u 
   pub rising : (N : ℕ) (up : ℕ → ℕ) → Rising N whole up v v (take at order₀) work₀ → Rising N whole up v u (take k order) work
   pub grows : at ≤ k
   pub in-order : UpTo order₀ order k
-  pub front : FrontWritten whole work₀ work
+  pub front : FrontWritten v work₀ work
 
 -- The way up is written, up to the place k.
 pub record Risen (whole v at : ℕ) (work₀ order₀ work order : List ℕ) (k : ℕ) : Type 0 where
   pub arranging : (N : ℕ) (up : ℕ → ℕ) → Rising N whole up v v (take at order₀) work₀ → Arranging N whole up (v + 1) (take k order) work
   pub grows : at ≤ k
   pub in-order : UpTo order₀ order k
-  pub front : FrontWritten whole work₀ work
+  pub front : FrontWritten v work₀ work
 
 pub rises-begins : {whole v at : ℕ} {work order : List ℕ} → CanRise whole v at work order → Rises whole v at work order work order v at
 rises-begins can = record { rising = λ N up s. s; grows = omega arith; in-order = up-to-self (can .within); front = front-same }
@@ -110,8 +110,10 @@ module _ {whole v at : ℕ} {work₀ order₀ work order : List ℕ} {u k : ℕ}
     pub parent-counted : 0 < getD work p 0
     parent-counted = rising-counted now-rising p e
 
-    counted : FrontWritten whole work₀ (set work p (getD work p 0 - 1))
-    counted = front-then (s .front) (front-set p (getD work p 0 - 1) (omega (arith, parent-falls, number-small)))
+    counted : FrontWritten v work₀ (set work p (getD work p 0 - 1))
+    counted =
+        let one : FrontWritten v work (set work p (getD work p 0 - 1)) = front-set p (getD work p 0 - 1) (omega (arith, parent-falls, now-rising .climbing .no-higher)) in
+        front-then (omega arith) (omega arith) (s .front) one
 
     -- Other children of its parent are missing.
     pub risen-to-wait : getD (set work p (getD work p 0 - 1)) p 0 ≢ 0 → Risen whole v at work₀ order₀ (set work p (getD work p 0 - 1)) (set order k u) (k + 1)
@@ -146,7 +148,7 @@ pub record Placed (whole v at : ℕ) (work₀ order₀ work order : List ℕ) (k
   pub arranging : (N : ℕ) (up : ℕ → ℕ) → v < N → Arranging N whole up v (take at order₀) work₀ → Arranging N whole up (v + 1) (take k order) work
   pub grows : at ≤ k
   pub in-order : UpTo order₀ order k
-  pub front : FrontWritten whole work₀ work
+  pub front : FrontWritten v work₀ work
 
 module _ {whole v at : ℕ} {work order : List ℕ} (can : CanPlace whole v at work order) where
   pub number-within : v < length work
@@ -179,14 +181,13 @@ pub record CanArrange (whole count : ℕ) (work order : List ℕ) : Type 0 where
 
 pub record Arranged (whole count : ℕ) (work order work′ order′ : List ℕ) : Type 0 where
   pub in-order : (up : ℕ → ℕ) → Held count whole up [] work → order′ ≡ over (leastOrder count up) order
-  pub order-long : length order′ ≡ length order
-  pub front : FrontWritten whole work work′
+  pub front : FrontWritten count work work′
 
 -- Before the number v, where `at` entries are written.
 pub record ArrangedTo (whole count : ℕ) (work₀ order₀ work order : List ℕ) (at v : ℕ) : Type 0 where
   pub arranging : (up : ℕ → ℕ) → Held count whole up [] work₀ → Arranging count whole up v (take at order) work
   pub in-order : UpTo order₀ order at
-  pub front : FrontWritten whole work₀ work
+  pub front : FrontWritten count work₀ work
 
 pub arranged-none : {whole count : ℕ} {work order : List ℕ} → ArrangedTo whole count work order work order 0 0
 arranged-none = record { arranging = λ up h. arranging-begins h; in-order = up-to-self (omega arith); front = front-same }
@@ -209,7 +210,7 @@ module _ {whole count at v : ℕ} {work₀ order₀ work order : List ℕ} (can 
   arranged-more h p = record {
     arranging = λ up g. p .arranging count up h (s .arranging up g);
     in-order = up-to-more (p .grows) (s .in-order) (p .in-order);
-    front = front-then (s .front) (p .front);
+    front = front-then (omega arith) (omega arith) (s .front) (p .front);
   }
 
   pub arranged-all : count ≤ v → Arranged whole count work₀ order₀ work order
@@ -219,6 +220,5 @@ module _ {whole count at v : ℕ} {work₀ order₀ work order : List ℕ} (can 
         sym (take-append-drop at order) ∙ ap (λ (l : List ℕ). take at order ++ l) (s .in-order .beyond)
         ∙ ap (λ (j : ℕ). take at order ++ drop j order₀) (sym (length-take-le at order (s .in-order .within)))
         ∙ ap (λ (l : List ℕ). over l order₀) (arranging-ends (s .arranging up g) h);
-    order-long = s .in-order .long;
     front = s .front;
   }

@@ -1,12 +1,13 @@
 -- What the promise says where a caller stands: the order given is right, and no right order is smaller.
-use mathlib.Core.Path.{_≡_, sym, ap, _∙_, subst}
+use mathlib.Core.Path.{_≡_, refl, sym, ap, _∙_, subst}
 use mathlib.Core.List.{List}
 use Prim.Native.Nat.{ℕ, _*_, _^_, _≤_, _<_}
 use native.Mathlib.Decide.{decLt}
 use native.Mathlib.Omega.{arith}
 use lib.ListN.{length, getD, take, replicate}
-use Rattle.sequences.specs.Cases.{ifAccepted, first-some, written-accepted, written-refused}
+use Rattle.sequences.specs.Cases.{ifAccepted, first-some, first-zero, written-accepted, written-refused}
 use Rattle.sequences.specs.Over.{over, over-none, over-beyond}
+use Rattle.sequences.specs.Ranges.{tabulate}
 use Rattle.answers.specs.declared.Written.{Written}
 use Rattle.answers.specs.Answers.{Wrote, accepted-writes}
 use Rattle.quadtree.specs.Blocks.{blocks, paint}
@@ -14,9 +15,11 @@ use Rattle.quadtree.specs.Number.{number, numberWith}
 use Rattle.quadtree.specs.Accepted.{number-zero}
 use Rattle.components.specs.Numbers.{numbers, labels, regions}
 use Rattle.regions.specs.Promise.{Numbering, none, numbered}
-use Rattle.regions.specs.Callers.{eight-unless-long}
+use Rattle.regions.specs.Callers.{labelOfPixel, eight-unless-long, labels-are-numbers}
 use Rattle.forests.specs.Least.{LeastOf}
 use Rattle.surrounding.specs.CuttingOrders.{InsideOut, RightOrder, cuttingOrder, cutting-order-is-least}
+use Rattle.parents.specs.AfterNumbering.{regions-numbered}
+use Rattle.parents.specs.Forest.{regions-at-most-blocks}
 use Rattle.least_order.specs.Promise.{orderingNumber, LeastOrdering, order-list-short, same-number}
 
 module _ {n : ℕ} {cs ls ks labels₀ work₀ order₀ labels₁ work₁ order₁ : List ℕ} {r : Written}
@@ -52,6 +55,24 @@ module _ {n : ℕ} {cs ls ks labels₀ work₀ order₀ labels₁ work₁ order�
       pick (no h) =
           let long : length cs ≤ length order₀ = omega arith in
           same-number n cs ls ks labels₀ work₀ order₀ long ∙ eight-unless-long n cs ls ks labels₀ work₀ accepted (λ l. short (l .0, l .1, long))
+
+  -- Only an accepted list and lists that are long enough are accepted.
+  pub accepted-only : r .number ≡ 0 → (number n cs ls ks ≡ 0) × (length cs ≤ length labels₀) × (2 * 4 ^ n ≤ length work₀) × (length cs ≤ length order₀)
+  unfolding orderingNumber numberWith
+  accepted-only e = pick (decLt (length labels₀) (length cs)) (decLt (length work₀) (2 * 4 ^ n)) (decLt (length order₀) (length cs))
+    where
+      fine : number n cs ls ks ≡ 0
+      fine = first-zero (number n cs ls ks) _ (sym (p .in-order .number-is) ∙ e) .0
+
+      short : {A : Type 0} → ((length cs ≤ length labels₀) × (2 * 4 ^ n ≤ length work₀) × (length cs ≤ length order₀) → ⊥) → A
+      short f = absurd (omega (arith, e, eight-comes-last fine f))
+
+      pick : Dec (length labels₀ < length cs) → Dec (length work₀ < 2 * 4 ^ n) → Dec (length order₀ < length cs)
+          → (number n cs ls ks ≡ 0) × (length cs ≤ length labels₀) × (2 * 4 ^ n ≤ length work₀) × (length cs ≤ length order₀)
+      pick (no a) (no b) (no c) = (fine, omega arith, omega arith, omega arith)
+      pick (yes a) b c = short (λ l. omega (arith, l .0))
+      pick (no a) (yes b) c = short (λ l. omega (arith, l .1))
+      pick (no a) (no b) (yes c) = short (λ l. omega (arith, l .2))
 
   -- An accepted list, and lists that are long enough.
   module _ (accepted : number n cs ls ks ≡ 0) (one-a-block : length cs ≤ length labels₀) (room : 2 * 4 ^ n ≤ length work₀)
@@ -91,3 +112,13 @@ module _ {n : ℕ} {cs ls ks labels₀ work₀ order₀ labels₁ work₁ order�
         (p .in-labels ∙ ap (λ (l : List ℕ). over l labels₀) (written-accepted number-then (labels n (blocks cs ls ks)) none-then))
         (p .in-work ∙ ap (λ (l : List ℕ). over l work₀) (written-accepted number-then (replicate (2 * 4 ^ n) 0) none-then))
         count-is-regions
+
+    -- The same by the labels at exit: the region of a pixel is the label of the block that holds it.
+    pub order-is-least-by-labels : LeastOf (r .count) (InsideOut n (tabulate (4 ^ n) (labelOfPixel (blocks cs ls ks) labels₁))) (take (r .count) order₁)
+    order-is-least-by-labels =
+        subst (λ (k : ℕ). LeastOf k (InsideOut n (tabulate (4 ^ n) (labelOfPixel (blocks cs ls ks) labels₁))) (take (r .count) order₁)) (sym count-is-regions)
+        (subst (λ (m : List ℕ). LeastOf (regions n px) (InsideOut n m) (take (r .count) order₁)) (sym (labels-are-numbers lists-as-numbered refl)) order-is-least)
+
+    -- An order list of one entry a block has room for all regions.
+    pub no-more-than-blocks : r .count ≤ length cs
+    no-more-than-blocks = regions-at-most-blocks (regions-numbered lists-as-numbered refl refl)

@@ -17,19 +17,19 @@ pub record Forested (whole count : ℕ) (up : ℕ → ℕ) (w : List ℕ) : Type
   pub parents : ParentsFrom count whole up w
   pub zeros : (p : ℕ) → p < count → getD w p 0 ≡ 0
 
--- Only the front of the list is written to.
-pub record FrontWritten (whole : ℕ) (w w′ : List ℕ) : Type 0 where
+-- Only entries below k are written to.
+pub record FrontWritten (k : ℕ) (w w′ : List ℕ) : Type 0 where
   pub long : length w′ ≡ length w
-  pub kept : (j : ℕ) → whole ≤ j → getD w′ j 0 ≡ getD w j 0
+  pub kept : (j : ℕ) → k ≤ j → getD w′ j 0 ≡ getD w j 0
 
-pub front-same : {whole : ℕ} {w : List ℕ} → FrontWritten whole w w
+pub front-same : {k : ℕ} {w : List ℕ} → FrontWritten k w w
 front-same = record { long = refl; kept = λ j h. refl }
 
-pub front-then : {whole : ℕ} {w w′ w″ : List ℕ} → FrontWritten whole w w′ → FrontWritten whole w′ w″ → FrontWritten whole w w″
-front-then a b = record { long = b .long ∙ a .long; kept = λ j h. b .kept j h ∙ a .kept j h }
+pub front-then : {j k l : ℕ} {w w′ w″ : List ℕ} → j ≤ l → k ≤ l → FrontWritten j w w′ → FrontWritten k w′ w″ → FrontWritten l w w″
+front-then g h a b = record { long = b .long ∙ a .long; kept = λ i l. b .kept i (omega arith) ∙ a .kept i (omega arith) }
 
-pub front-set : {whole : ℕ} {w : List ℕ} (p x : ℕ) → p < whole → FrontWritten whole w (set w p x)
-front-set {whole} {w} p x h = record { long = length-set w p x; kept = λ j l. getD-set-other w p j x 0 (omega arith) }
+pub front-set : {k : ℕ} {w : List ℕ} (p x : ℕ) → p < k → FrontWritten k w (set w p x)
+front-set {k} {w} p x h = record { long = length-set w p x; kept = λ j l. getD-set-other w p j x 0 (omega arith) }
 
 -- ---- one number
 
@@ -43,7 +43,7 @@ pub record CanCountOne (whole : ℕ) (w : List ℕ) (v : ℕ) : Type 0 where
 
 pub record CountedOne (whole v : ℕ) (w w′ : List ℕ) : Type 0 where
   pub counting : (N : ℕ) (up : ℕ → ℕ) → ParentsBelow N up → v < N → Counting N whole up v w → Counting N whole up (v + 1) w′
-  pub front : FrontWritten whole w w′
+  pub front : FrontWritten v w w′
 
 module _ {whole v : ℕ} {w : List ℕ} (can : CanCountOne whole w v) where
   pub parent-place : (whole + v < length w) × (v < whole)
@@ -65,7 +65,7 @@ module _ {whole v : ℕ} {w : List ℕ} (can : CanCountOne whole w v) where
     pub child-counted : CountedOne whole v w (set w (getD w (whole + v) 0 - 1) (getD w (getD w (whole + v) 0 - 1) 0 + 1))
     child-counted = record {
       counting = λ N up low h s. counting-child h s low _ above;
-      front = front-set (getD w (whole + v) 0 - 1) (getD w (getD w (whole + v) 0 - 1) 0 + 1) (omega (arith, count-place, parent-place));
+      front = front-set (getD w (whole + v) 0 - 1) (getD w (getD w (whole + v) 0 - 1) 0 + 1) (count-place .0);
     }
 
 -- ---- all numbers
@@ -77,12 +77,12 @@ pub record CanCount (whole count : ℕ) (w : List ℕ) : Type 0 where
 
 pub record Counted (whole count : ℕ) (w w′ : List ℕ) : Type 0 where
   pub held : (up : ℕ → ℕ) → Forested whole count up w → Held count whole up [] w′
-  pub front : FrontWritten whole w w′
+  pub front : FrontWritten count w w′
 
 -- The numbers below v are counted.
 pub record CountedTo (whole count : ℕ) (w₀ w : List ℕ) (v : ℕ) : Type 0 where
   pub counting : (up : ℕ → ℕ) → Forested whole count up w₀ → Counting count whole up v w
-  pub front : FrontWritten whole w₀ w
+  pub front : FrontWritten count w₀ w
 
 pub counted-none : {whole count : ℕ} {w : List ℕ} → CountedTo whole count w w 0
 counted-none = record { counting = λ up f. counting-begins (f .parents) (f .zeros); front = front-same }
@@ -99,7 +99,7 @@ module _ {whole count : ℕ} {w₀ w : List ℕ} {v : ℕ} (can : CanCount whole
   }
 
   pub counted-more : {w′ : List ℕ} → v < count → CountedOne whole v w w′ → CountedTo whole count w₀ w′ (v + 1)
-  counted-more h c = record { counting = λ up f. c .counting count up (f .low) h (s .counting up f); front = front-then (s .front) (c .front) }
+  counted-more h c = record { counting = λ up f. c .counting count up (f .low) h (s .counting up f); front = front-then (omega arith) (omega arith) (s .front) (c .front) }
 
   pub counted-all : count ≤ v → Counted whole count w₀ w
   counted-all h = record {

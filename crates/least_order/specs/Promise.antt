@@ -1,13 +1,13 @@
 -- What giving the least order promises: the answer, and the later content of the label list, the work list and the order list.
 use mathlib.Core.Path.{_≡_, refl, sym, ap, _∙_}
 use mathlib.Core.Bool.{Bool, true, false, _||_}
-use mathlib.Core.List.{List, []}
+use mathlib.Core.List.{List}
 use Prim.Native.Nat.{ℕ, zero, suc, _*_, _^_, _≤_, _<_}
 use native.Mathlib.Omega.{arith}
 use lib.ListN.{length, replicate}
 use lib.Dec.{ltb}
 use borrow.Author.Tests.{lt-ltb, le-ltb}
-use Rattle.sequences.specs.Cases.{first, when, ifAccepted, first-some, first-none, when-yes, or-right, written-accepted, written-refused}
+use Rattle.sequences.specs.Cases.{when, ifAccepted, first-some, first-none, when-yes, or-right, written-refused}
 use Rattle.sequences.specs.Over.{over, over-none}
 use Rattle.answers.specs.declared.Written.{Written}
 use Rattle.answers.specs.Put.{Put}

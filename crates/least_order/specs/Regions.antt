@@ -1,5 +1,5 @@
 -- The order of all regions: their parents are found, the children are counted, the order is written, and the work list is cleared.
-use mathlib.Core.Path.{_≡_, sym, ap, _∙_}
+use mathlib.Core.Path.{_≡_, _∙_}
 use mathlib.Core.List.{List}
 use Prim.Native.Nat.{ℕ, _+_, _*_, _^_, _≤_, _<_}
 use native.Mathlib.Omega.{arith}
@@ -12,7 +12,7 @@ use Rattle.forests.specs.LeastOrder.{leastOrder}
 use Rattle.surrounding.specs.Parents.{parentOf}
 use Rattle.parents.specs.Promise.{RegionsNumbered, ParentsFound}
 use Rattle.parents.specs.Forest.{parents-are, parents-lower, RegionsFit, regions-fit, cleared}
-use Rattle.least_order.specs.Counts.{Forested, CanCount, Counted, front-then}
+use Rattle.least_order.specs.Counts.{Forested, CanCount, Counted, FrontWritten, front-then}
 use Rattle.least_order.specs.Arranged.{CanArrange, Arranged}
 
 -- Numbered regions, an order list with room for them, and a work list that is blank as far as it is needed.
@@ -24,7 +24,6 @@ pub record Arrangeable (n count : ℕ) (codes levels labels work order : List �
 -- The least order stands in the order list, and the work list is as it was.
 pub record OrderWritten (n count : ℕ) (codes levels labels work order work′ order′ : List ℕ) : Type 0 where
   pub in-order : order′ ≡ over (leastOrder count (parentOf n (paint (blocks codes levels labels)))) order
-  pub order-long : length order′ ≡ length order
   pub same : work′ ≡ work
 
 module _ {n count : ℕ} {codes levels labels work order : List ℕ} (ok : Arrangeable n count codes levels labels work order)
@@ -55,9 +54,8 @@ module _ {n count : ℕ} {codes levels labels work order : List ℕ} (ok : Arran
 
       pub order-written : {work′ : List ℕ} → work′ ≡ fill used 0 (whole + count) 0 → OrderWritten n count codes levels labels work order work′ order′
       order-written e =
-          let f = front-then (c .front) (a .front) in
+          let f : FrontWritten count found used = front-then (omega arith) (omega arith) (c .front) (a .front) in
           record {
             in-order = a .in-order up (c .held up forested);
-            order-long = a .order-long;
             same = e ∙ cleared (ok .numbered) p size used (ok .zeros) (f .long) (λ j h. f .kept j (omega arith));
           }

@@ -1,12 +1,11 @@
 -- After the numbering of the regions: the order can be tested, and its number is as promised.
-use mathlib.Core.Path.{_≡_, refl, sym, ap, _∙_, subst}
+use mathlib.Core.Path.{_≡_, sym, ap, _∙_, subst}
 use mathlib.Core.Bool.{Bool, true, false}
 use mathlib.Core.List.{List}
 use Prim.Native.Nat.{ℕ}
 use native.Mathlib.Omega.{arith}
-use lib.ListN.{length}
 use Rattle.quadtree.specs.Blocks.{blocks, paint}
-use Rattle.components.specs.Numbers.{numbers, regions}
+use Rattle.components.specs.Numbers.{regions}
 use Rattle.components.specs.Numbered.{regions-at-most-pixels}
 use Rattle.regions.specs.Promise.{Numbering}
 use Rattle.regions.specs.Callers.{regions-at-exit, work-is-zero}

@@ -25,7 +25,7 @@ pub record MarkedTo (test : List ℕ → ℕ → Bool) (order work₀ work : Lis
   pub passing : Passing test (length order) order work₀ i work
   pub beyond : (j : ℕ) → length order ≤ j → getD work j 0 ≡ getD work₀ j 0
 
--- The walk has ended, at the first entry that fails the test or past the last.
+-- The walk has ended, at the first entry that fails the test or past the last. Which marks it left in front is free.
 pub record Marking (test : List ℕ → ℕ → Bool) (order work work′ : List ℕ) (r : Bool) : Type 0 where
   pub tested : r ≡ along test [] order
   pub long : length work′ ≡ length work
@@ -42,10 +42,10 @@ module _ {test : List ℕ → ℕ → Bool} {order work₀ work : List ℕ} {i :
   all-pass h = record { tested = sym (passing-ends h (g .passing)); long = g .passing .same-length; beyond = g .beyond }
 
   module _ (less : i < length order) where
-    pub one-fails : test (g .passing .before) (getD order i 0) ≡ false → Marking test order work₀ work false
+    one-fails : test (g .passing .before) (getD order i 0) ≡ false → Marking test order work₀ work false
     one-fails t = record { tested = sym (passing-stops less (g .passing) t); long = g .passing .same-length; beyond = g .beyond }
 
-    pub one-passes : getD order i 0 < length order → test (g .passing .before) (getD order i 0) ≡ true → MarkedTo test order work₀ (set work (getD order i 0) 1) (i + 1)
+    one-passes : getD order i 0 < length order → test (g .passing .before) (getD order i 0) ≡ true → MarkedTo test order work₀ (set work (getD order i 0) 1) (i + 1)
     one-passes b t = record {
       passing = passing-on less (g .passing) b t;
       beyond = λ j h. getD-set-other work (getD order i 0) j 1 0 (omega arith) ∙ g .beyond j h;

@@ -1,8 +1,8 @@
 -- What the promise says where a caller stands: when each number is answered, by the definitions on pixels, and that the lists at exit are
 -- those that the numbering leaves.
-use mathlib.Core.Path.{_≡_, refl, sym, ap, _∙_, subst}
+use mathlib.Core.Path.{_≡_, refl, sym, _∙_, subst}
 use mathlib.Core.Logic.{_≢_, _⊎_, inl, inr, _↔_}
-use mathlib.Core.Bool.{Bool, true, false, false≢true, true≢false}
+use mathlib.Core.Bool.{Bool, true, false, true≢false}
 use mathlib.Core.List.{List}
 use Prim.Native.Nat.{ℕ, zero, suc, _*_, _^_, _≤_, _<_}
 use native.Mathlib.Omega.{arith}
@@ -13,16 +13,17 @@ use Rattle.quadtree.specs.Blocks.{blocks, paint}
 use Rattle.quadtree.specs.Number.{number, numberWith}
 use Rattle.quadtree.specs.Accepted.{number-zero}
 use Rattle.components.specs.Numbers.{numbers, regions}
-use Rattle.regions.specs.Promise.{numberingNumber, regionsCounted, Numbering, none}
-use Rattle.regions.specs.Callers.{labelOfPixel, refusal-leaves-all, eight-unless-long, labels-are-numbers}
-use Rattle.regions.specs.declared.Numbered.{Numbered}
+use Rattle.regions.specs.Promise.{numberingNumber, regionsCounted, Numbering, none, numbered}
+use Rattle.regions.specs.Bounds.{numbering-at-most-eight}
+use Rattle.regions.specs.Callers.{labelOfPixel, refusal-leaves-all, eight-unless-long, labels-are-numbers, list-accepted, long-enough, labels-at-exit, work-at-exit}
 use Rattle.forests.specs.Orders.{EachOnce}
+use Rattle.forests.specs.Falling.{falling}
 use Rattle.forests.specs.Checking.{isEachOnce, each-once-says}
-use Rattle.surrounding.specs.CuttingOrders.{InsideOut, isInsideOut, RightOrder, StandsBefore, tests-say-right, standing-before}
+use Rattle.surrounding.specs.CuttingOrders.{InsideOut, isInsideOut, RightOrder, StandsBefore, tests-say-right, standing-before, falling-is-inside-out}
 use Rattle.order_check.specs.Promise.{faultOfOrder, orderNumber, OrderCheck, not-each-once, not-inside-out, right}
 
 -- The three answers about an order of the regions of an image.
-pub data Verdict (n : ℕ) (px order : List ℕ) : ℕ → Type 0 where
+data Verdict (n : ℕ) (px order : List ℕ) : ℕ → Type 0 where
   yes-right : RightOrder n px order → Verdict n px order 0
   not-every-region-once : (EachOnce (regions n px) order → ⊥) → Verdict n px order 19
   one-before-what-it-surrounds : EachOnce (regions n px) order → StandsBefore n (numbers n px) order → Verdict n px order 20
@@ -57,12 +58,12 @@ module _ (n : ℕ) (px order : List ℕ) (small : n ≤ 8) where
   twenty-says (one-before-what-it-surrounds o b) e = (o, b)
 
 -- Of an order there are no other numbers.
-fault-high : (n : ℕ) (px order : List ℕ) → 0 < faultOfOrder n px order → faultOfOrder n px order < 19 → ⊥
-fault-high n px order some low = pick (isEachOnce (regions n px) order) (isInsideOut n px order) refl refl
+fault-high : (n : ℕ) (px order : List ℕ) → 0 < faultOfOrder n px order → faultOfOrder n px order ≢ 19 → faultOfOrder n px order ≢ 20 → ⊥
+fault-high n px order some a′ b′ = pick (isEachOnce (regions n px) order) (isInsideOut n px order) refl refl
   where
     pick : (a b : Bool) → isEachOnce (regions n px) order ≡ a → isInsideOut n px order ≡ b → ⊥
-    pick false b e f = omega (arith, not-each-once n px order e)
-    pick true false e f = omega (arith, not-inside-out n px order e f)
+    pick false b e f = a′ (not-each-once n px order e)
+    pick true false e f = b′ (not-inside-out n px order e f)
     pick true true e f = omega (arith, right n px order e f)
 
 module _ {n : ℕ} {cs ls ks order labels₀ work₀ labels₁ work₁ : List ℕ} {r : ℕ} (p : OrderCheck n cs ls ks order labels₀ work₀ labels₁ work₁ r) where
@@ -96,15 +97,28 @@ module _ {n : ℕ} {cs ls ks order labels₀ work₀ labels₁ work₁ : List �
   eight-comes-next accepted short = refused-before 8 (eight-unless-long n cs ls ks labels₀ work₀ accepted short) (omega arith)
 
   -- "So those entries are further exceptions to the rule that a refusal alters nothing": 19 and 20 alone are.
-  pub other-refusals-leave-both : 0 < r → r < 19 → (labels₁ ≡ labels₀) × (work₁ ≡ work₀)
+  pub other-refusals-leave-both : 0 < r → r ≢ 19 → r ≢ 20 → (labels₁ ≡ labels₀) × (work₁ ≡ work₀)
   unfolding orderNumber
-  other-refusals-leave-both some low = pick before-order refl
+  other-refusals-leave-both some a b = pick before-order refl
     where
       pick : (k : ℕ) → before-order ≡ k → (labels₁ ≡ labels₀) × (work₁ ≡ work₀)
       pick (suc k) e = let left = refused-before (suc k) e (omega arith) in (left .1, left .2)
       pick zero e =
           let judged : r ≡ faultOfOrder n px order = p .answer ∙ first-none before-order (faultOfOrder n px order) e in
-          absurd (fault-high n px order (omega (arith, judged)) (omega (arith, judged)))
+          absurd (fault-high n px order (omega (arith, judged)) (λ f. a (judged ∙ f)) (λ f. b (judged ∙ f)))
+
+  -- 0, 19 and 20 are said of accepted lists and lists that are long enough only.
+  pub accepted-only : (r ≡ 0) ⊎ (8 < r) → (number n cs ls ks ≡ 0) × (length cs ≤ length labels₀) × (2 * 4 ^ n ≤ length work₀)
+  unfolding orderNumber
+  accepted-only said = pick before-order refl
+    where
+      high : {k : ℕ} → r ≡ suc k → suc k ≤ 8 → (r ≡ 0) ⊎ (8 < r) → ⊥
+      high e l (inl z) = omega arith
+      high e l (inr g) = omega arith
+
+      pick : (k : ℕ) → before-order ≡ k → (number n cs ls ks ≡ 0) × (length cs ≤ length labels₀) × (2 * 4 ^ n ≤ length work₀)
+      pick zero e = let long = long-enough lists-as-numbered e in (list-accepted lists-as-numbered e, long .0, long .1)
+      pick (suc k) e = absurd (high (refused-before (suc k) e (omega arith) .0) (omega (arith, e, numbering-at-most-eight n cs ls ks labels₀ work₀)) said)
 
   -- ---- the verdict
 
@@ -118,6 +132,13 @@ module _ {n : ℕ} {cs ls ks order labels₀ work₀ labels₁ work₁ : List �
     judged =
         p .answer
         ∙ first-none (numberingNumber n cs ls ks labels₀ work₀) (faultOfOrder n px order) (none n cs ls ks labels₀ work₀ accepted one-a-block room)
+
+    -- "leave the region numbers in the one and zeros in the other, refusals 19 and 20 included": whatever the verdict, the lists are those of
+    -- an accepted numbering.
+    pub numbered-whatever-the-verdict : Numbering n cs ls ks labels₀ work₀ labels₁ work₁ (record { number = 0; regions = regions n (paint (blocks cs ls ks)) })
+    numbered-whatever-the-verdict =
+        let z : before-order ≡ 0 = none n cs ls ks labels₀ work₀ accepted one-a-block room in
+        numbered n cs ls ks labels₀ work₀ accepted one-a-block room (labels-at-exit lists-as-numbered z) (work-at-exit lists-as-numbered z) refl
 
     answer-is : Verdict n px order r
     answer-is = subst (Verdict n px order) (sym judged) (verdict n px order small)
@@ -156,6 +177,10 @@ module _ {n : ℕ} {cs ls ks order labels₀ work₀ labels₁ work₁ : List �
       twenty-says n px order small answer-is,
       λ o. judged ∙ not-inside-out n px order (each-once-says (regions n px) order .1 (o .0)) (standing-before n px small order (o .0) .1 (o .1)),
     )
+
+    -- All regions by falling numbers are a right order: so there always is one.
+    pub falling-numbers-are-right : order ≡ falling (regions n (paint (blocks cs ls ks))) → r ≡ 0
+    falling-numbers-are-right e = yes-exactly-when-right .1 (subst (RightOrder n px) (sym e) (falling-is-inside-out n px small))
 
     -- There is no other answer.
     pub zero-nineteen-or-twenty : (r ≡ 0) ⊎ ((r ≡ 19) ⊎ (r ≡ 20))

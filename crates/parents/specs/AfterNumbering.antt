@@ -4,7 +4,7 @@ use mathlib.Core.List.{List}
 use Prim.Native.Nat.{ℕ, _*_, _^_, _≤_}
 use native.Mathlib.Omega.{arith}
 use lib.ListN.{length, replicate, length-replicate}
-use Rattle.sequences.specs.Over.{over, length-over}
+use Rattle.sequences.specs.Over.{length-over}
 use Rattle.quadtree.specs.Blocks.{blocks, paint}
 use Rattle.quadtree.specs.Accepted.{number-zero}
 use Rattle.components.specs.Numbers.{numbers, labels}

@@ -7,7 +7,6 @@ use native.Mathlib.Decide.{decLt, ℕ-discrete}
 use native.Mathlib.Omega.{arith}
 use lib.ListN.{length, getD}
 use Rattle.unions.specs.Counting.{Before}
-use Rattle.grid.specs.Outer.{LeastPixel}
 use Rattle.components.specs.Numbers.{numbers}
 use Rattle.components.specs.Numbered.{numbers-are-region-numbers}
 use Rattle.cycles.specs.Mapped.{numsOf}
@@ -37,8 +36,8 @@ pub record BlockNext (n : ℕ) (codes labels : List ℕ) (i s : ℕ) (work : Lis
 
 -- After it: so with the regions below r. What lies behind their parents is as it was.
 pub record BlockPassed (n : ℕ) (labels : List ℕ) (i s : ℕ) (work work′ : List ℕ) (r : ℕ) : Type 0 where
-  pub more : s ≤ r
-  pub most : r ≤ s + 1
+  pub first : getD labels i 0 ≡ s → r ≡ s + 1
+  pub other : getD labels i 0 ≢ s → r ≡ s
   pub below : (j : ℕ) → j < i + 1 → getD labels j 0 < r
   pub settled : Settled n r work′
   pub same-numbers : numsOf n work′ ≡ numsOf n work
@@ -88,8 +87,8 @@ module _ {n : ℕ} {codes labels : List ℕ} {i s : ℕ} {work : List ℕ} (ok :
   -- A block of a region that is settled.
   pub block-skipped : getD labels i 0 ≢ s → BlockPassed n labels i s work work s
   block-skipped d = record {
-    more = omega arith;
-    most = omega arith;
+    first = λ e. absurd (d e);
+    other = λ e. refl;
     below = below-then (omega arith) (omega (arith, not-above));
     settled = ok .settled;
     same-numbers = refl;
@@ -118,8 +117,8 @@ module _ {n : ℕ} {codes labels : List ℕ} {i s : ℕ} {work : List ℕ} (ok :
 
     pub region-passed : {work′ : List ℕ} → RegionSettled n s work work′ → BlockPassed n labels i s work work′ (s + 1)
     region-passed t = record {
-      more = omega arith;
-      most = omega arith;
+      first = λ e. refl;
+      other = λ d. absurd (d here);
       below = below-then (omega arith) (omega arith);
       settled = t .settled;
       same-numbers = t .same-numbers;
@@ -183,14 +182,21 @@ module _ {n count : ℕ} {codes labels work₀ : List ℕ} (all : AllNext n coun
     }
 
     pub again : {work′ : List ℕ} {r : ℕ} → s < count → BlockPassed n labels i s work work′ r → SettledTo n count codes labels work₀ work′ (i + 1) r
-    again h t = record {
-      few = omega (arith, t .most);
+    again {work′} {r} h t = record {
+      few = omega (arith, step .1);
       below = t .below;
       settled = t .settled;
       same-numbers = t .same-numbers ∙ g .same-numbers;
       long = t .long ∙ g .long;
-      beyond = λ j l. t .beyond j l ∙ g .beyond j (omega (arith, t .more));
+      beyond = λ j l. t .beyond j l ∙ g .beyond j (omega (arith, step .0));
     }
+      where
+        step : (s ≤ r) × (r ≤ s + 1)
+        step = pick (ℕ-discrete (getD labels i 0) s)
+          where
+            pick : Dec (getD labels i 0 ≡ s) → (s ≤ r) × (r ≤ s + 1)
+            pick (yes e) = (omega (arith, t .first e), omega (arith, t .first e))
+            pick (no d) = (omega (arith, t .other d), omega (arith, t .other d))
 
     pub finish : count ≤ s → AllSettled n count work₀ work
     finish h =

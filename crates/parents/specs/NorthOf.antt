@@ -39,7 +39,7 @@ module _ {n : ℕ} {work : List ℕ} {x y : ℕ} (a : LeastAt n work x y) where
   number-here : getD nums (code n x y) 0 ≡ s
   number-here = ap (λ (m : List ℕ). getD m (code n x y) 0) (sym (a .settled .numbered))
 
-  pub known : getD (numsOf n work) (code n x y) 0 < regions n (a .settled .image)
+  known : getD (numsOf n work) (code n x y) 0 < regions n (a .settled .image)
   known = omega (arith, number-below-regions n (a .settled .image) (code n x y) (code-below n x y), number-here)
 
   as-numbers : parentOf n nums s ≡ parent-here
@@ -114,7 +114,7 @@ module _ {n : ℕ} {work : List ℕ} {x y : ℕ} (a : LeastAt n work x y) where
               (subst (λ (q : ℕ). In (southSide n q) (firstCycle n nums (f .region))) (sym north-here) i)
 
     -- Without a mark the region to the north is the parent.
-    pub parent-unmarked : north < markBit → north ≡ parent-here
+    parent-unmarked : north < markBit → north ≡ parent-here
     parent-unmarked h = pick cases ∙ as-numbers
       where
         pick : Parent n (a .settled .image) (a .settled .small) s → north ≡ parentOf n nums s

@@ -14,10 +14,9 @@ use Rattle.components.specs.Numbers.{numbers, regions}
 use Rattle.components.specs.Numbered.{regions-at-most-pixels, each-number-given}
 use Rattle.links.specs.Forward.{Labelled}
 use Rattle.links.specs.Relabelled.{length-as, code-as, colour-as}
-use Rattle.cycles.specs.Mapped.{numsOf}
 use Rattle.mapping.specs.Filling.{raised, Fillable, MapFilled, map-filled}
 use Rattle.surrounding.specs.Parents.{parentOf}
-use Rattle.parents.specs.Blocks.{HeldBy, BlocksNumbered, AllNext, AllSettled}
+use Rattle.parents.specs.Blocks.{BlocksNumbered, AllNext, AllSettled}
 
 -- Blocks with the region numbers of an image for labels, `count` regions in all, and a work list that is long enough.
 pub record RegionsNumbered (n count : ℕ) (codes levels labels work : List ℕ) : Type 0 where

@@ -2,7 +2,7 @@
 use mathlib.Core.Path.{_≡_, sym, ap, ap₂, _∙_, subst}
 use mathlib.Core.Logic.{_⊎_, inl, inr, _↔_}
 use mathlib.Core.List.{List}
-use Prim.Native.Nat.{ℕ, suc, _+_, _*_, _%_, _^_, _≤_, _<_}
+use Prim.Native.Nat.{ℕ, _+_, _%_, _^_, _≤_, _<_}
 use native.Mathlib.Decide.{decLt}
 use native.Mathlib.Omega.{arith}
 use lib.ListN.{length, getD, set, length-set}
@@ -17,7 +17,7 @@ use Rattle.quadtree.specs.Orders.{place-in}
 use Rattle.orbits.specs.Members.{In}
 use Rattle.grid.specs.Cycles.{cycle}
 use Rattle.grid.specs.Outer.{LeastPixel, least-starts}
-use Rattle.components.specs.Numbers.{numbers, regions}
+use Rattle.components.specs.Numbers.{numbers}
 use Rattle.components.specs.Numbered.{number-below-regions, regions-at-most-pixels}
 use Rattle.steps.specs.Look.{markBit}
 use Rattle.cycles.specs.Mapped.{numsOf, Mapped, Marked, same-nums}
@@ -26,7 +26,7 @@ use Rattle.forests.specs.Finding.{placeOf}
 use Rattle.surrounding.specs.SouthSides.{southSide}
 use Rattle.surrounding.specs.Parents.{firstCycle, parentOf}
 use Rattle.parents.specs.Settled.{InFirstCycle, Settled, LeastAt, RegionNext, RegionSettled}
-use Rattle.parents.specs.NorthOf.{known, placed}
+use Rattle.parents.specs.NorthOf.{placed}
 
 module _ {n s c : ℕ} {work : List ℕ} (ok : RegionNext n s c work) where
   small : n ≤ 8

@@ -68,7 +68,7 @@ fn settle_all(n: u32, count: usize, codes: &[u32], labels: &[u32], work: &mut [u
 }
 
 // Writes 1 plus the parent of each region, 0 where it has none, behind the first 4^n entries of the work list. Of these one a region is 0
-// then; the others are left as the map.
+// then; what the others hold is free.
 pub fn find_parents(
     n: u32,
     count: usize,

@@ -62,7 +62,7 @@ over-a-corner =
 
 -- "Region R surrounds S if no path from S through pixels outside R, with diagonal steps allowed, reaches a pixel at the image's edge; R
 -- and S differ". Of a number s that no pixel has it says nothing: every other number surrounds it. A number r that no pixel has
--- surrounds no region: no path meets it.
+-- surrounds no region, since what surrounds has the smaller number (`surrounding-is-smaller`).
 pub record Surrounds (n : ℕ) (nums : List ℕ) (r s : ℕ) : Type 0 where
   pub differ : r ≢ s
   pub shut : (c : ℕ) → getD nums c 0 ≡ s → ¬ Escapes n nums r c

@@ -1,5 +1,4 @@
 -- `place` meets its contract: a number of which children are missing is passed over; from any other the way up is written.
-use native.Mathlib.Omega.{arith}
 use Rattle.least_order.specs.Arranged.{number-within, passed-over, can-rise, placed-by-rising}
 use borrow.Author.Needs.{needs}
 use Rattle.least_order.proofs.place.Statement.{statement}

@@ -1,6 +1,5 @@
 -- `each_once` meets its contract: an order of another length is not every number once; else the marks tell, and they are cleared again.
 use mathlib.Core.Path.{refl, sym, _∙_}
-use native.Mathlib.Omega.{arith}
 use Rattle.forests.specs.Checking.{once-of-other-length}
 use Rattle.order_check.specs.Along.{blank-order, clear-room, as-before, once-tested}
 use borrow.Author.Needs.{needs}
