@@ -4,13 +4,53 @@ use first_cycles::mark_south_sides;
 use steps::MARK_BIT;
 ghost use mathlib.Core.Path.{_≡_};
 ghost use Prim.Native.Nat.{_≤_};
-ghost use lib.ListN.{getD};
+ghost use lib.ListN.{length, getD};
+ghost use Rattle.sequences.specs.Over.{over};
 ghost use Rattle.interleaving.specs.Codes.{code};
+ghost use Rattle.quadtree.specs.Raster.{inRows};
+ghost use Rattle.quadtree.specs.Blocks.{blocks, paint};
+ghost use Rattle.squares.specs.Rows.{RowsFit};
+ghost use Rattle.squares.specs.Filling.{RowsFilled};
+ghost use Rattle.mapping.specs.Filling.{raised, Fillable};
 ghost use Rattle.cycles.specs.Mapped.{numsOf};
 ghost use Rattle.surrounding.specs.Parents.{parentOf};
 ghost use Rattle.parents.specs.Settled.{LeastAt, RegionNext, RegionSettled};
 ghost use Rattle.parents.specs.Blocks.{BlockNext, BlockPassed, AllNext, AllSettled};
 ghost use Rattle.parents.specs.Promise.{RegionsNumbered, ParentsFound};
+
+// Gives the square of s rows of s entries at the place `at`, in rows of w, the value v. Most blocks of a busy picture are one pixel.
+fn fill_square(map: &mut [u32], w: usize, at: usize, s: usize, v: u32)
+    requires { ⌜ (w ≤ 256) × RowsFit (length (now map)) w at s s ⌝ }
+    ensures { λ _. ⌜ RowsFilled w at s s v (now (map .entry)) (now (map .exit)) ⌝ }
+{
+    if s == 1 {
+        map[at] = v;
+        return;
+    }
+    let mut from = at;
+    let mut y: usize = 0;
+    while y < s {
+        filling::fill(map, from, s, v);
+        from += w;
+        y += 1;
+    }
+}
+
+// Fills the map with 1 plus the label of each block. The same as in `mapping`, which keeps one caller so that the compiler inlines it there.
+fn fill_map(n: u32, codes: &[u32], levels: &[u8], labels: &[u32], map: &mut [u32])
+    requires { ⌜ Fillable n (now codes) (now levels) (now labels) (now map) ⌝ }
+    ensures { λ _. ⌜ now (map .exit)
+        ≡ over (inRows n (raised (paint (blocks (now (codes .entry)) (now (levels .entry)) (now (labels .entry)))))) (now (map .entry)) ⌝ }
+{
+    let w = location::side(n);
+    let mut i: usize = 0;
+    while i < codes.len() {
+        let s = location::side(levels[i] as u32);
+        let at = location::place(n, codes[i]);
+        fill_square(map, w, at, s, labels[i] + 1);
+        i += 1;
+    }
+}
 
 // 1 plus the parent of the region whose least pixel is (x, y), 0 where it has none. The work list holds the map and behind it the parents of
 // the regions with smaller numbers, whose first cycles are marked.
@@ -80,7 +120,7 @@ pub fn find_parents(
     requires { ⌜ RegionsNumbered n count (now codes) (now levels) (now labels) (now work) ⌝ }
     ensures { λ _. ⌜ ParentsFound n count (now (codes .entry)) (now (levels .entry)) (now (labels .entry)) (now (work .entry)) (now (work .exit)) ⌝ }
 {
-    mapping::fill_map(n, codes, levels, labels, work);
+    fill_map(n, codes, levels, labels, work);
     settle_all(n, count, codes, labels, work);
     filling::fill(work, 0, count, 0);
 }
