@@ -173,13 +173,13 @@ int main(void) {
     const uint32_t places[16] = {0, 1, 2, 3, 4, 5, 6, 7, 8, 9, 10, 11, 12, 13, 14, 15};
     const uint8_t zero[16] = {0};
     const uint16_t middle[16] = {1, 1, 1, 2, 1, 1, 2, 1, 1, 2, 1, 1, 2, 1, 1, 1};
-    const uint32_t in_the_middle[16] = {0, 0, 0, 1, 0, 0, 1, 0, 0, 1, 0, 0, 1, 0, 0, 0}, inside_out[2] = {1, 0}, outside_in[3] = {0, 1, 1};
+    const uint32_t in_the_middle[16] = {0, 0, 0, 1, 0, 0, 1, 0, 0, 1, 0, 0, 1, 0, 0, 0}, inside_out[2] = {1, 0}, outside_in[3] = {0, 1, 1}, twice[2] = {0, 0};
     const struct {
         const uint32_t *order;
         size_t length;
         uint32_t number;
-    } orders[5] = {{inside_out, 2, 0}, {outside_in, 2, 20}, {outside_in, 3, 19}, {inside_out, 1, 19}, {again, 4, 19}};
-    for (int i = 0; i < 5; i++) {
+    } orders[6] = {{twice, 2, 19}, {inside_out, 2, 0}, {outside_in, 2, 20}, {outside_in, 3, 19}, {inside_out, 1, 19}, {again, 4, 19}};
+    for (int i = 0; i < 6; i++) {
         memset(&cut, 99, sizeof cut);
         uint32_t number = nettlestair_check_order(2, places, 16, zero, 16, middle, 16, orders[i].order, orders[i].length, cut.labels,
                                                   17, cut.work, 33);

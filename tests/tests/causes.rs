@@ -405,7 +405,7 @@ fn causes_of_orders() {
                 cases.ran();
             }
             for (order_too_short, c) in [(0, 0), (1, 8)] {
-                let lengths = [lengths[0], lengths[1], lengths[2].max(1) - order_too_short];
+                let lengths = [lengths[0], lengths[1], lengths[2].saturating_sub(order_too_short)];
                 let number = [a, b, c].into_iter().find(|&number| number != 0).unwrap_or(0);
                 let out = least_order(&mut random, n, &blocks, lengths);
                 assert_eq!(out.answer.number, number, "n = {n}, {blocks}, lists of {lengths:?}");

@@ -276,7 +276,7 @@ fn nested_list(random: &mut Random) -> (u32, Blocks) {
     (n, blocks_of(random, n, &raster))
 }
 
-/// An order of all regions: falling, the least, or random, at times with one change.
+/// An order of all regions: falling or the least, at times with entries exchanged or a fault.
 fn order_of(random: &mut Random, model: &Model) -> Vec<u32> {
     let regions = model.regions.as_ref().map_or(3, |regions| regions.count);
     let mut order: Vec<u32> = match random.below(3) {

@@ -1,5 +1,5 @@
-//! Cutting from the inside out: which region is around each, by the first cycle of each region, and orders judged and found by how many
-//! regions are left inside each.
+//! Cutting from the inside out: which region is around each, by the first cycle of each region; orders judged by marks, and the least one
+//! found by how many regions are left inside each.
 
 use super::blocks::{check, fill_square};
 use super::location::{pixel, place};
@@ -66,8 +66,8 @@ fn each_once(order: &[u32], seen: &mut [u32]) -> bool {
 struct Around<'a> {
     /// One more than the number of the innermost region that surrounds it, 0 where there is none.
     outer: &'a [u32],
-    /// How many regions it is the innermost one around.
-    left: &'a mut [u32],
+    /// Scratch, cleared.
+    scratch: &'a mut [u32],
 }
 
 /// Finds the innermost region around each. Straight north of a region's least pixel lies a region of a smaller number, if any. It is around,
@@ -92,12 +92,9 @@ fn around<'a>(n: u32, blocks: Blocks, labels: &[u32], regions: usize, work: &'a 
             region += 1;
         }
     }
-    let left = &mut map.cells[..regions];
-    left.fill(0);
-    for &outer in outer.iter().filter(|&&outer| outer != 0) {
-        left[outer as usize - 1] += 1;
-    }
-    Around { outer, left }
+    let scratch = &mut map.cells[..regions];
+    scratch.fill(0);
+    Around { outer, scratch }
 }
 
 /// Walks the cycle from the north side of a pixel and marks each pixel whose south side is on it.
@@ -128,19 +125,22 @@ fn walk_first(map: &mut Map, start: u32) {
 
 /// Whether no region stands before one that it surrounds, in an order of each region once.
 fn inside_out(order: &[u32], around: Around) -> bool {
-    let Around { outer, left } = around;
+    let Around { outer, scratch: seen } = around;
     order.iter().all(|&region| {
-        let outer = outer[region as usize];
-        if outer != 0 {
-            left[outer as usize - 1] -= 1;
+        seen[region as usize] = 1;
+        match outer[region as usize] {
+            0 => true,
+            outer => seen[outer as usize - 1] == 0,
         }
-        left[region as usize] == 0
     })
 }
 
 /// Writes the least order: rising numbers, but each region that surrounds others straight after the last of these.
 fn write_least(around: Around, order: &mut [u32]) {
-    let Around { outer, left } = around;
+    let Around { outer, scratch: left } = around;
+    for &outer in outer.iter().filter(|&&outer| outer != 0) {
+        left[outer as usize - 1] += 1;
+    }
     let mut places = order.iter_mut();
     for region in 0..outer.len() {
         let mut next = region;

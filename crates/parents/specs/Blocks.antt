@@ -10,7 +10,7 @@ use Rattle.unions.specs.Counting.{Before}
 use Rattle.components.specs.Numbers.{numbers}
 use Rattle.components.specs.Numbered.{numbers-are-region-numbers}
 use Rattle.cycles.specs.Mapped.{numsOf}
-use Rattle.parents.specs.Settled.{Settled, RegionNext, RegionSettled}
+use Rattle.parents.specs.RegionsSettled.{RegionsSettled, RegionNext, RegionSettled}
 
 -- The block that holds the pixel c starts no later, and its label is the pixel's number.
 pub record HeldBy (nums codes labels : List ℕ) (c : ℕ) : Type 0 where
@@ -32,14 +32,14 @@ pub record BlockNext (n : ℕ) (codes labels : List ℕ) (i s : ℕ) (work : Lis
   pub blocks : BlocksNumbered n (numsOf n work) codes labels
   pub place : i < length codes
   pub below : (j : ℕ) → j < i → getD labels j 0 < s
-  pub settled : Settled n s work
+  pub settled : RegionsSettled n s work
 
 -- After it: so with the regions below r. What lies behind their parents is as it was.
 pub record BlockPassed (n : ℕ) (labels : List ℕ) (i s : ℕ) (work work′ : List ℕ) (r : ℕ) : Type 0 where
   pub first : getD labels i 0 ≡ s → r ≡ s + 1
   pub other : getD labels i 0 ≢ s → r ≡ s
   pub below : (j : ℕ) → j < i + 1 → getD labels j 0 < r
-  pub settled : Settled n r work′
+  pub settled : RegionsSettled n r work′
   pub same-numbers : numsOf n work′ ≡ numsOf n work
   pub long : length work′ ≡ length work
   pub beyond : (j : ℕ) → 4 ^ n + r ≤ j → getD work′ j 0 ≡ getD work j 0
@@ -132,11 +132,11 @@ module _ {n : ℕ} {codes labels : List ℕ} {i s : ℕ} {work : List ℕ} (ok :
 pub record AllNext (n count : ℕ) (codes labels work : List ℕ) : Type 0 where
   pub blocks : BlocksNumbered n (numsOf n work) codes labels
   pub given : (v : ℕ) → v < count → (c : ℕ) × (c < 4 ^ n) × (getD (numsOf n work) c 0 ≡ v)
-  pub start : Settled n 0 work
+  pub start : RegionsSettled n 0 work
 
 -- They are; what lies behind their parents is as it was.
 pub record AllSettled (n count : ℕ) (work work′ : List ℕ) : Type 0 where
-  pub settled : Settled n count work′
+  pub settled : RegionsSettled n count work′
   pub same-numbers : numsOf n work′ ≡ numsOf n work
   pub long : length work′ ≡ length work
   pub beyond : (j : ℕ) → 4 ^ n + count ≤ j → getD work′ j 0 ≡ getD work j 0
@@ -145,7 +145,7 @@ pub record AllSettled (n count : ℕ) (work work′ : List ℕ) : Type 0 where
 pub record SettledTo (n count : ℕ) (codes labels work₀ work : List ℕ) (i s : ℕ) : Type 0 where
   pub few : s ≤ count
   pub below : (j : ℕ) → j < i → getD labels j 0 < s
-  pub settled : Settled n s work
+  pub settled : RegionsSettled n s work
   pub same-numbers : numsOf n work ≡ numsOf n work₀
   pub long : length work ≡ length work₀
   pub beyond : (j : ℕ) → 4 ^ n + s ≤ j → getD work j 0 ≡ getD work₀ j 0
@@ -202,7 +202,7 @@ module _ {n count : ℕ} {codes labels work₀ : List ℕ} (all : AllNext n coun
     finish h =
         let e : s ≡ count = omega (arith, g .few) in
         record {
-          settled = subst (λ (v : ℕ). Settled n v work) e (g .settled);
+          settled = subst (λ (v : ℕ). RegionsSettled n v work) e (g .settled);
           same-numbers = g .same-numbers;
           long = g .long;
           beyond = λ j l. g .beyond j (omega arith);

@@ -23,7 +23,7 @@ use Rattle.forests.specs.Finding.{placeOf}
 use Rattle.surrounding.specs.SouthSides.{southSide}
 use Rattle.surrounding.specs.Parents.{firstCycle, parentOf, least-of, Northern, Parent, top, shared, own, parent-cases}
 use Rattle.surrounding.specs.FirstCycles.{first-cycle-of-own-region}
-use Rattle.parents.specs.Settled.{InFirstCycle, LeastAt}
+use Rattle.parents.specs.RegionsSettled.{InFirstCycle, LeastAt}
 
 module _ {n : ℕ} {work : List ℕ} {x y : ℕ} (a : LeastAt n work x y) where
   -- The region numbers, the region of the pixel and its parent.

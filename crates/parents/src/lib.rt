@@ -14,7 +14,7 @@ ghost use Rattle.squares.specs.Filling.{RowsFilled};
 ghost use Rattle.mapping.specs.Filling.{raised, Fillable};
 ghost use Rattle.cycles.specs.Mapped.{numsOf};
 ghost use Rattle.surrounding.specs.Parents.{parentOf};
-ghost use Rattle.parents.specs.Settled.{LeastAt, RegionNext, RegionSettled};
+ghost use Rattle.parents.specs.RegionsSettled.{LeastAt, RegionNext, RegionSettled};
 ghost use Rattle.parents.specs.Blocks.{BlockNext, BlockPassed, AllNext, AllSettled};
 ghost use Rattle.parents.specs.Promise.{RegionsNumbered, ParentsFound};
 

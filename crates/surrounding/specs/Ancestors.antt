@@ -13,7 +13,7 @@ use Rattle.components.specs.Neighbours.{north-beside}
 use Rattle.forests.specs.Forest.{ParentsBelow, Above, parent, further, above-below, above-cases, above-none, above-same}
 use Rattle.forests.specs.Finding.{placeOf}
 use Rattle.surrounding.specs.Surrounds.{north, Surrounds}
-use Rattle.surrounding.specs.Sharing.{none-at-edge, surrounds-beside}
+use Rattle.surrounding.specs.Sharing.{edge-region-not-surrounded, surrounds-beside}
 use Rattle.surrounding.specs.Surrounded.{surrounded-unless-first}
 use Rattle.surrounding.specs.Escaping.{not-surrounded-if-first}
 use Rattle.surrounding.specs.Parents.{parentOf, least-of, Northern, Parent, top, shared, own, parent-cases}
@@ -66,7 +66,7 @@ module _ (n : ℕ) (px : List ℕ) (small : n ≤ 8) where
 
       from : Parent n px small s → Surrounds n nums r s ↔ Above up r s
       from (top e q) = (
-        λ w. absurd (none-at-edge n nums r (placeOf s nums) (least-of n px s h .0 .inside) (north e) (subst (Surrounds n nums r) (sym (least-of n px s h .1)) w)),
+        λ w. absurd (edge-region-not-surrounded n nums r (placeOf s nums) (least-of n px s h .0 .inside) (north e) (subst (Surrounds n nums r) (sym (least-of n px s h .1)) w)),
         λ a. absurd (above-none up q a),
       )
       from (shared v i q) = (

@@ -10,8 +10,8 @@ use Rattle.surrounding.specs.Surrounds.{Outside, start, AtEdge, Surround
 use Rattle.surrounding.specs.Paths.{outside-from, outside-through, escapes-through, outside-in-region, outside-beside}
 
 -- "a path of one pixel counts".
-pub none-at-edge : (n : ℕ) (nums : List ℕ) (r c : ℕ) → c < 4 ^ n → AtEdge n c → ¬ Surrounds n nums r (getD nums c 0)
-none-at-edge n nums r c l a s = s .shut c refl (record { end = c; path = start l (λ z. s .differ (sym z)); at-edge = a })
+pub edge-region-not-surrounded : (n : ℕ) (nums : List ℕ) (r c : ℕ) → c < 4 ^ n → AtEdge n c → ¬ Surrounds n nums r (getD nums c 0)
+edge-region-not-surrounded n nums r c l a s = s .shut c refl (record { end = c; path = start l (λ z. s .differ (sym z)); at-edge = a })
 
 module _ (n : ℕ) (px : List ℕ) where
   abbrev nums : List ℕ

@@ -1,6 +1,6 @@
 -- `settle` meets its contract: the parent is stored behind the map, so the map is the same, and then the first cycle is marked.
 use native.Mathlib.Omega.{arith}
-use Rattle.parents.specs.Settling.{least-here, parent-place, cycle-starts, region-settled}
+use Rattle.parents.specs.OneRegion.{least-here, parent-place, cycle-starts, region-settled}
 use borrow.Author.Needs.{needs}
 use Rattle.parents.proofs.settle.Statement.{statement}
 use Rattle.parents.proofs.settle.Tie as tie

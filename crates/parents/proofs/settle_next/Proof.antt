@@ -1,7 +1,7 @@
 -- `settle_next` meets its contract: a block whose label is the next number is the first block of its region; any other is one of a region
 -- that is settled.
 use native.Mathlib.Omega.{arith}
-use Rattle.parents.specs.Settling.{region-low}
+use Rattle.parents.specs.OneRegion.{region-low}
 use Rattle.parents.specs.Blocks.{block-skipped, region-next, region-passed}
 use borrow.Author.Needs.{needs}
 use Rattle.parents.proofs.settle_next.Statement.{statement}

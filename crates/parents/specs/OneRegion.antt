@@ -25,7 +25,7 @@ use Rattle.cycles.specs.CycleStarts.{CycleStart, CycleMarked}
 use Rattle.forests.specs.Finding.{placeOf}
 use Rattle.surrounding.specs.SouthSides.{southSide}
 use Rattle.surrounding.specs.Parents.{firstCycle, parentOf}
-use Rattle.parents.specs.Settled.{InFirstCycle, Settled, LeastAt, RegionNext, RegionSettled}
+use Rattle.parents.specs.RegionsSettled.{InFirstCycle, RegionsSettled, LeastAt, RegionNext, RegionSettled}
 use Rattle.parents.specs.NorthOf.{placed}
 
 module _ {n s c : ℕ} {work : List ℕ} (ok : RegionNext n s c work) where
@@ -58,7 +58,7 @@ module _ {n s c : ℕ} {work : List ℕ} (ok : RegionNext n s c work) where
       x-inside = omega (arith, x-is, column-below n c);
       y-inside = omega (arith, y-is, row-below n c);
       least = subst (LeastPixel n (numsOf n work)) (sym code-is) (ok .least);
-      settled = subst (λ (v : ℕ). Settled n v work) (sym number-is) (ok .settled);
+      settled = subst (λ (v : ℕ). RegionsSettled n v work) (sym number-is) (ok .settled);
     }
 
     module _ {whole : ℕ} (ew : whole ≡ pixelsOf n) where

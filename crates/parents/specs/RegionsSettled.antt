@@ -20,7 +20,7 @@ pub record InFirstCycle (n : ℕ) (nums : List ℕ) (s q : ℕ) : Type 0 where
 
 -- The regions below s are settled: the front of the work list is the map of the regions of an image, in which those pixels are marked whose
 -- south sides lie in their first cycles; behind it stand their parents.
-pub record Settled (n s : ℕ) (work : List ℕ) : Type 0 where
+pub record RegionsSettled (n s : ℕ) (work : List ℕ) : Type 0 where
   pub small : n ≤ 8
   pub image : List ℕ
   pub mapped : Mapped n work
@@ -34,17 +34,17 @@ pub record LeastAt (n : ℕ) (work : List ℕ) (x y : ℕ) : Type 0 where
   pub x-inside : x < 2 ^ n
   pub y-inside : y < 2 ^ n
   pub least : LeastPixel n (numsOf n work) (code n x y)
-  pub settled : Settled n (getD (numsOf n work) (code n x y) 0) work
+  pub settled : RegionsSettled n (getD (numsOf n work) (code n x y) 0) work
 
 -- The region s comes next, and the pixel with the code c is its least one.
 pub record RegionNext (n s c : ℕ) (work : List ℕ) : Type 0 where
   pub least : LeastPixel n (numsOf n work) c
   pub number : getD (numsOf n work) c 0 ≡ s
-  pub settled : Settled n s work
+  pub settled : RegionsSettled n s work
 
 -- It is settled too; the map has the same numbers, and what lies behind its parent is as it was.
 pub record RegionSettled (n s : ℕ) (work work′ : List ℕ) : Type 0 where
-  pub settled : Settled n (s + 1) work′
+  pub settled : RegionsSettled n (s + 1) work′
   pub same-numbers : numsOf n work′ ≡ numsOf n work
   pub long : length work′ ≡ length work
   pub beyond : (j : ℕ) → 4 ^ n + s < j → getD work′ j 0 ≡ getD work j 0
