@@ -82,7 +82,7 @@ mul-if2 : tie.Need-mul-if2 Inv-loop μ-loop
 mul-if2 c = omega (arith, parent-low (c .before), small (c .before))
 
 slice-read-if2 : tie.Need-slice-read-if2 Inv-loop μ-loop
-slice-read-if2 c = simp length-set (count-within (turn (c .before .before) .before .pre) (turn (c .before .before) .loop .inv) _ (above-zero _ (c .before .before .if1 .left)))
+slice-read-if2 c = let e = c .before .before in simp length-set (count-within (turn e .before .pre) (turn e .loop .inv) _ (above-zero _ (e .if1 .left)))
 
 same-length-3 : tie.Need-same-length-3 Inv-loop μ-loop
 same-length-3 c = search needs
@@ -91,13 +91,13 @@ same-length-4 : tie.Need-same-length-4 Inv-loop μ-loop
 same-length-4 c = search needs
 
 returns-2 : tie.Need-returns-2 Inv-loop μ-loop
-returns-2 c = risen-to-wait (turn (c .before .before .before) .before .pre) (turn (c .before .before .before) .loop .inv) _ (above-zero _ (c .before .before .before .if1 .left)) (c .if2 .taken)
+returns-2 c = let e = c .before .before .before in risen-to-wait (turn e .before .pre) (turn e .loop .inv) _ (above-zero _ (e .if1 .left)) (c .if2 .taken)
 
 loop-less : tie.Need-loop-less Inv-loop μ-loop
-loop-less c = parent-falls (turn (c .before .before .before) .before .pre) (turn (c .before .before .before) .loop .inv) _ (above-zero _ (c .before .before .before .if1 .left))
+loop-less c = parent-low (c .before .before .before)
 
 loop-again : tie.Need-loop-again Inv-loop μ-loop
-loop-again c = rises-on (turn (c .before .before .before) .before .pre) (turn (c .before .before .before) .loop .inv) _ (above-zero _ (c .before .before .before .if1 .left)) (c .if2 .left)
+loop-again c = let e = c .before .before .before in rises-on (turn e .before .pre) (turn e .loop .inv) _ (above-zero _ (e .if1 .left)) (c .if2 .left)
 
 pub rise-spec : {M : Type 1} → statement M
 rise-spec =
