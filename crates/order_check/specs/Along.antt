@@ -138,9 +138,6 @@ LaterMarked whole order work work′ r = Marking (parentLater (parentsIn whole w
 
 module _ {whole : ℕ} {order work₀ : List ℕ} (f : Families whole order work₀) {work : List ℕ} {i : ℕ}
     (g : MarkedTo (parentLater (parentsIn whole work₀)) order work₀ work i) (less : i < length order) where
-  v : ℕ
-  v = getD order i 0
-
   parent-is : getD work (whole + getD order i 0) 0 ≡ parentsIn whole work₀ (getD order i 0)
   parent-is = g .beyond (whole + getD order i 0) (omega (arith, f .apart))
 
