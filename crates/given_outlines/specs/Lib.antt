@@ -1,0 +1,11 @@
+-- Outlines that are given: the definition, the only image that can have them, and that 18 is answered exactly where none has them.
+pub mod Given
+pub mod Candidate
+pub mod Complete
+pub mod Judged
+-- What a check in passes asks: the lists agree, the numbers are region numbers, the cycles are the listing.
+pub mod Agreeing
+pub mod InOrder
+pub mod Starts
+pub mod Checked
+pub mod Needed

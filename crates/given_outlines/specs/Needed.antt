@@ -1,0 +1,88 @@
+-- What the outlines of every image have: where one of these fails there is no such image, and a check may refuse at once.
+use mathlib.Core.Path.{_≡_, refl, sym, ap, ap₂, _∙_}
+use mathlib.Core.List.{List, [], _∷_, map, flatMap}
+use Prim.Native.Nat.{ℕ, suc, _+_, _*_, _^_, _≤_, _<_}
+use native.Mathlib.Omega.{arith}
+use lib.ListN.{length, getD, length-append}
+use Rattle.interleaving.specs.Codes.{code}
+use Rattle.interleaving.specs.Interleaving.{code-below}
+use Rattle.lattice.specs.Walks.{outline}
+use Rattle.orbits.specs.Members.{In, in-first, in-later}
+use Rattle.components.specs.Numbers.{numbers, regions}
+use Rattle.components.specs.Numbered.{number-below-regions, regions-at-most-pixels}
+use Rattle.grid.specs.Map.{regionAt}
+use Rattle.grid.specs.Margins.{region-inside}
+use Rattle.grid.specs.Cycles.{cycle}
+use Rattle.grid.specs.Listing.{Cycle, startCodes, cycleAt, listing, owners, cycleCount, cornerCount}
+use Rattle.grid.specs.Starting.{StartAt}
+use Rattle.grid.specs.Closing.{sides-of-corners}
+use Rattle.grid.specs.Listed.{SidesOnce, listing-length, owner-at, start-at, listed-start, each-side-once}
+use Rattle.grid.specs.Bounds.{all-edges-fit, cycles-fit, corner-count-fits}
+use Rattle.links.specs.Image.{imageOutlines}
+use Rattle.given_outlines.specs.Given.{Given, HasOutlines, cyclesGiven, given-are-outlines}
+use Rattle.given_outlines.specs.Candidate.{regionFrom}
+use Rattle.given_outlines.specs.Complete.{region-from-edges}
+
+-- No image of side 2^n with so many regions has these cycles as its outlines.
+abbrev pub NoImage : ℕ → ℕ → List Cycle → Type 0
+NoImage n count l = (px : List ℕ) → regions n px ≡ count → imageOutlines n px ≡ l → ⊥
+
+-- Then nothing has the given outlines.
+pub none-has : {n : ℕ} {g : Given} → NoImage n (g .regionTotal) (cyclesGiven g) → (px : List ℕ) → HasOutlines n g px → ⊥
+none-has none px has = none px (has .region-count) (sym (given-are-outlines has))
+
+-- How many unit sides stand in the outlines of a list.
+unfoldable pub unitSides : List Cycle → ℕ
+unfolding outline
+unitSides [] = 0
+unitSides (c ∷ cs) = length (outline (c .points)) + unitSides cs
+
+sides-of-starts : (n : ℕ) (nums : List ℕ) → n ≤ 8 → (cs : List ℕ) → ((c : ℕ) → In c cs → StartAt n nums c)
+    → unitSides (map (cycleAt n nums) cs) ≡ length (flatMap (cycle n nums) cs)
+unfolding unitSides cycleAt flatMap
+sides-of-starts n nums small [] f = refl
+sides-of-starts n nums small (c ∷ cs) f =
+    ap₂ _+_ (ap length (sides-of-corners n nums small c (f c (in-first c cs)))) (sides-of-starts n nums small cs (λ d i. f d (in-later d c cs i)))
+    ∙ sym (length-append (cycle n nums c) (flatMap (cycle n nums) cs))
+
+module _ {n : ℕ} (px : List ℕ) (small : n ≤ 8) where
+  abbrev l : List Cycle
+  l = imageOutlines n px
+
+  -- The counts are no larger than the image allows.
+  pub few-regions : regions n px ≤ 4 ^ n
+  few-regions = regions-at-most-pixels n px
+
+  pub few-cycles : length (imageOutlines n px) ≤ 4 ^ n
+  unfolding cycleCount
+  few-cycles = cycles-fit n (numbers n px) (regions n px)
+
+  pub few-corners : cornerCount (imageOutlines n px) ≤ 4 * 4 ^ n
+  few-corners = corner-count-fits n (numbers n px) (regions n px) small
+
+  pub few-sides : unitSides (imageOutlines n px) ≤ 4 * 4 ^ n
+  unfolding listing
+  few-sides =
+      omega (
+        arith,
+        sides-of-starts n (numbers n px) small (startCodes n (numbers n px) (regions n px)) (listed-start n (numbers n px) (regions n px) small),
+        all-edges-fit n (numbers n px) small (regions n px),
+      )
+
+  -- Owners are region numbers.
+  pub owner-below : (k : ℕ) → k < length (imageOutlines n px) → getD (owners (imageOutlines n px)) k 0 < regions n px
+  owner-below k h =
+      let s : k < length (startCodes n (numbers n px) (regions n px)) = omega (arith, listing-length n (numbers n px) (regions n px)) in
+      omega (
+        arith,
+        owner-at n (numbers n px) (regions n px) k s,
+        number-below-regions n px (getD (startCodes n (numbers n px) (regions n px)) k 0) (start-at n (numbers n px) (regions n px) small k h .inside),
+      )
+
+  pub sides-once : SidesOnce (regionAt n (numbers n px)) (imageOutlines n px)
+  sides-once = each-side-once n (numbers n px) (regions n px) small (number-below-regions n px)
+
+  -- Every pixel has a region: there is a northward edge at it or west of it.
+  pub region-told : (x y : ℕ) → x < 2 ^ n → y < 2 ^ n → 0 < regionFrom (imageOutlines n px) y x
+  region-told x y a b =
+      omega (arith, region-from-edges n (numbers n px) small l sides-once x y a b, region-inside n (numbers n px) x y a b)
