@@ -1,6 +1,5 @@
 -- Lists and counts that agree with each other: then the cycles they hold have the given owners, ends and corners.
 use mathlib.Core.Path.{_≡_, refl, sym, ap, ap₂, _∙_, subst, subst₂}
-use mathlib.Core.Logic.{_↔_}
 use mathlib.Core.Bool.{Bool, cond}
 use mathlib.Core.List.{List, [], _∷_, _++_, map}
 use Prim.Native.Nat.{ℕ, zero, suc, _+_, _-_, _≤_, _<_}
@@ -14,8 +13,7 @@ use Rattle.grid.specs.Stretches.{beginFrom, length-owners, length-ends, last-en
 use Rattle.links.specs.Image.{imageOutlines}
 use Rattle.stretches.specs.Stretch.{beginOf, endOf, startOf, lengthOf, stretchOf, some-stretch}
 use Rattle.held.specs.Held.{cycleHeld, cyclesFrom, cyclesHeld}
-use Rattle.given_outlines.specs.Given.{Given, ownersGiven, endsGiven, cornersGiven, coloursGiven, HasOutlines, coloured, cyclesIn, cyclesGiven}
-use Rattle.given_outlines.specs.Given.{owners-counted, ends-counted, corners-counted, given-are-outlines}
+use Rattle.given_outlines.specs.Given.{Outlines, HasOutlines, coloured, cyclesIn, cyclesOf}
 
 -- An owner, an end and a corner list agree with each other: there is an owner for each end, and the ends rise from 0 to the number of corners.
 pub record Agreeing (os es cs : List ℕ) : Type 0 where
@@ -181,45 +179,20 @@ module _ {os es cs : List ℕ} (agree : Agreeing os es cs) where
     its-owner = ap (λ (l : List ℕ). getD l k 0) owners-held;
   }
 
--- ---- the given outlines are those of an image exactly where the lists agree and the cycles are those of the image
+-- ---- an image has outlines exactly where the lists agree and the cycles that they hold are those of the image
 
-pub record Holding (n : ℕ) (g : Given) (px : List ℕ) : Type 0 where
-  pub for-owners : length (ownersGiven g) ≡ g .cycleTotal
-  pub for-corners : length (cornersGiven g) ≡ g .cornerTotal
-  pub agree : Agreeing (ownersGiven g) (endsGiven g) (cornersGiven g)
-  pub cycles : cyclesGiven g ≡ imageOutlines n px
-  pub region-count : regions n px ≡ g .regionTotal
-  pub a-colour-each : length (coloursGiven g) ≡ g .regionTotal
-  pub colours-are : px ≡ coloured (coloursGiven g) (numbers n px)
+module _ {n : ℕ} {o : Outlines} {px : List ℕ} where
+  pub lists-agree : HasOutlines n o px → Agreeing (o .ownerList) (o .endList) (o .cornerList)
+  lists-agree has =
+      subst (Agreeing (o .ownerList) (o .endList)) (has .corners-are)
+      (subst₂ (λ os es. Agreeing os es (allCorners (imageOutlines n px))) (has .owners-are) (has .ends-are) (listing-agrees (imageOutlines n px)))
 
-module _ {n : ℕ} {g : Given} {px : List ℕ} where
-  pub holding-has : Holding n g px → HasOutlines n g px
-  unfolding cornerCount
-  holding-has h = record {
-    region-count = h .region-count;
-    cycle-count = ap length (sym (h .cycles)) ∙ length-held (h .agree) ∙ sym (h .agree .an-owner-each) ∙ h .for-owners;
-    corner-count = ap (λ (l : List Cycle). length (allCorners l)) (sym (h .cycles)) ∙ ap length (corners-held (h .agree)) ∙ h .for-corners;
-    owners-are = sym (owners-held (h .agree)) ∙ ap owners (h .cycles);
-    ends-are = sym (ends-held (h .agree)) ∙ ap ends (h .cycles);
-    corners-are = sym (corners-held (h .agree)) ∙ ap allCorners (h .cycles);
-    a-colour-each = h .a-colour-each;
-    colours-are = h .colours-are;
+  pub cycles-suffice : Agreeing (o .ownerList) (o .endList) (o .cornerList) → imageOutlines n px ≡ cyclesOf o → regions n px ≡ length (o .colourList)
+      → px ≡ coloured (o .colourList) (numbers n px) → HasOutlines n o px
+  cycles-suffice agree e count each = record {
+    owners-are = ap owners e ∙ owners-held agree;
+    ends-are = ap ends e ∙ ends-held agree;
+    corners-are = ap allCorners e ∙ corners-held agree;
+    a-colour-each = count;
+    colours-are = each;
   }
-
-  pub has-holding : HasOutlines n g px → Holding n g px
-  has-holding has = record {
-    for-owners = owners-counted has;
-    for-corners = corners-counted has;
-    agree = subst (λ (cs : List ℕ). Agreeing (ownersGiven g) (endsGiven g) cs) (sym (has .corners-are))
-        (subst₂ (λ (os es : List ℕ). Agreeing os es (allCorners l)) (sym (has .owners-are)) (sym (has .ends-are)) (listing-agrees l));
-    cycles = given-are-outlines has;
-    region-count = has .region-count;
-    a-colour-each = has .a-colour-each;
-    colours-are = has .colours-are;
-  }
-    where
-      l : List Cycle
-      l = imageOutlines n px
-
-  pub has-exactly-when-holding : HasOutlines n g px ↔ Holding n g px
-  has-exactly-when-holding = (has-holding, holding-has)

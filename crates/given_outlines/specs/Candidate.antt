@@ -12,7 +12,7 @@ use Rattle.lattice.specs.Walks.{outline}
 use Rattle.grid.specs.Listing.{Cycle}
 use Rattle.grid.specs.Sides.{sideAt}
 use Rattle.stretches.specs.Stretch.{startOf, lengthOf, holds}
-use Rattle.given_outlines.specs.Given.{Given, coloursGiven, coloured, cyclesIn, cyclesGiven}
+use Rattle.given_outlines.specs.Given.{Outlines, Given, upToCounts, coloured, cyclesIn, cyclesOf}
 
 -- Whether the edge e stands in a list.
 unfoldable pub stands : ℕ → List ℕ → Bool
@@ -37,14 +37,10 @@ unfoldable pub numbersFrom : ℕ → List Cycle → List ℕ
 unfolding tabulate regionFrom column row
 numbersFrom n l = tabulate (4 ^ n) (λ c. regionFrom l (row n c) (column n c) - 1)
 
--- The candidate's numbers and image.
-unfoldable pub candidateNumbers : ℕ → Given → List ℕ
-unfolding numbersFrom cyclesIn
-candidateNumbers n g = numbersFrom n (cyclesGiven g)
-
-unfoldable pub candidate : ℕ → Given → List ℕ
-unfolding candidateNumbers coloured
-candidate n g = coloured (coloursGiven g) (candidateNumbers n g)
+-- The candidate: each pixel with the colour given for its region.
+unfoldable pub candidate : ℕ → Outlines → List ℕ
+unfolding numbersFrom cyclesIn coloured
+candidate n o = coloured (o .colourList) (numbersFrom n (cyclesOf o))
 
 -- Dial 2: figure 5(b), its cycles with entries beyond the counts in every list.
 dial2 : Given
@@ -53,15 +49,17 @@ dial2 = record {
   regionTotal = 3;
   cycleTotal = 3;
   cornerTotal = 18;
-  ownerList = 0 ∷ 1 ∷ 2 ∷ 7 ∷ [];
-  endList = 10 ∷ 14 ∷ 18 ∷ 3 ∷ [];
-  cornerList =
-      point 0 0 ∷ point 4 0 ∷ point 4 2 ∷ point 2 2 ∷ point 2 1 ∷ point 1 1 ∷ point 1 2 ∷ point 2 2 ∷ point 2 4 ∷ point 0 4
-      ∷ point 1 1 ∷ point 2 1 ∷ point 2 2 ∷ point 1 2
-      ∷ point 2 2 ∷ point 4 2 ∷ point 4 4 ∷ point 2 4 ∷ point 9 9 ∷ [];
-  colourList = 1 ∷ 2 ∷ 3 ∷ 200 ∷ [];
+  lists = record {
+    ownerList = 0 ∷ 1 ∷ 2 ∷ 7 ∷ [];
+    endList = 10 ∷ 14 ∷ 18 ∷ 3 ∷ [];
+    cornerList =
+        point 0 0 ∷ point 4 0 ∷ point 4 2 ∷ point 2 2 ∷ point 2 1 ∷ point 1 1 ∷ point 1 2 ∷ point 2 2 ∷ point 2 4 ∷ point 0 4
+        ∷ point 1 1 ∷ point 2 1 ∷ point 2 2 ∷ point 1 2
+        ∷ point 2 2 ∷ point 4 2 ∷ point 4 4 ∷ point 2 4 ∷ point 9 9 ∷ [];
+    colourList = 1 ∷ 2 ∷ 3 ∷ 200 ∷ [];
+  };
 }
 
-figure-5b-restored : candidate 2 dial2 ≡ 1 ∷ 1 ∷ 1 ∷ 2 ∷ 1 ∷ 1 ∷ 1 ∷ 1 ∷ 1 ∷ 1 ∷ 1 ∷ 1 ∷ 3 ∷ 3 ∷ 3 ∷ 3 ∷ []
+figure-5b-restored : candidate 2 (upToCounts dial2) ≡ 1 ∷ 1 ∷ 1 ∷ 2 ∷ 1 ∷ 1 ∷ 1 ∷ 1 ∷ 1 ∷ 1 ∷ 1 ∷ 1 ∷ 3 ∷ 3 ∷ 3 ∷ 3 ∷ []
 unfolding candidate dial2 startOf lengthOf holds
 figure-5b-restored = refl

@@ -26,8 +26,8 @@ use Rattle.grid.specs.Listed.{OnceIn, SidesOnce, each-side-once}
 use Rattle.grid.specs.North.{side-small}
 use Rattle.grid.specs.Sides.{sideAt, beyond, Parts, side-parts, side-is-edge}
 use Rattle.links.specs.Image.{imageOutlines}
-use Rattle.given_outlines.specs.Given.{Given, coloursGiven, HasOutlines, coloured, given-are-outlines}
-use Rattle.given_outlines.specs.Candidate.{stands, ownerOf, regionFrom, numbersFrom, candidateNumbers, candidate}
+use Rattle.given_outlines.specs.Given.{Outlines, HasOutlines, coloured, cyclesOf, cycles-are-outlines}
+use Rattle.given_outlines.specs.Candidate.{stands, ownerOf, regionFrom, numbersFrom, candidate}
 
 -- ---- the tests in words
 
@@ -168,15 +168,14 @@ outlines-tell-numbers n px small =
     numbers-from-edges n (numbers n px) small (imageOutlines n px)
     (each-side-once n (numbers n px) (regions n px) small (number-below-regions n px)) (length-numbers n px)
 
-module _ {n : ℕ} {g : Given} {px : List ℕ} (small : n ≤ 8) (has : HasOutlines n g px) where
-  pub numbers-are-candidate : candidateNumbers n g ≡ numbers n px
-  unfolding candidateNumbers
-  numbers-are-candidate = ap (numbersFrom n) (given-are-outlines has) ∙ outlines-tell-numbers n px small
+module _ {n : ℕ} {o : Outlines} {px : List ℕ} (small : n ≤ 8) (has : HasOutlines n o px) where
+  pub numbers-are-told : numbersFrom n (cyclesOf o) ≡ numbers n px
+  numbers-are-told = ap (numbersFrom n) (cycles-are-outlines has) ∙ outlines-tell-numbers n px small
 
-  pub image-is-candidate : candidate n g ≡ px
+  pub image-is-candidate : candidate n o ≡ px
   unfolding candidate
-  image-is-candidate = ap (coloured (coloursGiven g)) numbers-are-candidate ∙ sym (has .colours-are)
+  image-is-candidate = ap (coloured (o .colourList)) numbers-are-told ∙ sym (has .colours-are)
 
 -- Two images with the same outlines and region colours are one.
-pub one-image : {n : ℕ} {g : Given} {px qx : List ℕ} → n ≤ 8 → HasOutlines n g px → HasOutlines n g qx → px ≡ qx
+pub one-image : {n : ℕ} {o : Outlines} {px qx : List ℕ} → n ≤ 8 → HasOutlines n o px → HasOutlines n o qx → px ≡ qx
 one-image small h k = sym (image-is-candidate small h) ∙ image-is-candidate small k

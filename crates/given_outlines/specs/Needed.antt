@@ -19,7 +19,7 @@ use Rattle.grid.specs.Closing.{sides-of-corners}
 use Rattle.grid.specs.Listed.{SidesOnce, listing-length, owner-at, start-at, listed-start, each-side-once}
 use Rattle.grid.specs.Bounds.{all-edges-fit, cycles-fit, corner-count-fits}
 use Rattle.links.specs.Image.{imageOutlines}
-use Rattle.given_outlines.specs.Given.{Given, HasOutlines, cyclesGiven, given-are-outlines}
+use Rattle.given_outlines.specs.Given.{Outlines, HasOutlines, cyclesOf, cycles-are-outlines}
 use Rattle.given_outlines.specs.Candidate.{regionFrom}
 use Rattle.given_outlines.specs.Complete.{region-from-edges}
 
@@ -27,9 +27,9 @@ use Rattle.given_outlines.specs.Complete.{region-from-edges}
 abbrev pub NoImage : ℕ → ℕ → List Cycle → Type 0
 NoImage n count l = (px : List ℕ) → regions n px ≡ count → imageOutlines n px ≡ l → ⊥
 
--- Then nothing has the given outlines.
-pub none-has : {n : ℕ} {g : Given} → NoImage n (g .regionTotal) (cyclesGiven g) → (px : List ℕ) → HasOutlines n g px → ⊥
-none-has none px has = none px (has .region-count) (sym (given-are-outlines has))
+-- Then none has the outlines that hold them.
+pub none-has : {n : ℕ} {o : Outlines} → NoImage n (length (o .colourList)) (cyclesOf o) → (px : List ℕ) → HasOutlines n o px → ⊥
+none-has none px has = none px (has .a-colour-each) (sym (cycles-are-outlines has))
 
 -- How many unit sides stand in the outlines of a list.
 unfoldable pub unitSides : List Cycle → ℕ
