@@ -84,7 +84,7 @@ module _ (f : ℕ → Cycle) (es cs : List ℕ) (count : ℕ) (fits : count ≤ 
 
 -- ---- the lists of a listing agree
 
-begins-alike : (es : List ℕ) (k : ℕ) → beginOf es k ≡ beginFrom 0 es k
+pub begins-alike : (es : List ℕ) (k : ℕ) → beginOf es k ≡ beginFrom 0 es k
 unfolding beginOf beginFrom
 begins-alike es zero = refl
 begins-alike es (suc k) = refl

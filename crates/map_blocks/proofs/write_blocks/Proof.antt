@@ -1,0 +1,98 @@
+-- The loop's invariant: the pixels before the end of the pending run are appended. The measure is the pixels left.
+use Prim.Native.Nat.{_-_}
+use native.Mathlib.Omega.{arith}
+use borrow.Author.Needs.{needs}
+use Rattle.quadtree.specs.BlockLists.{listOf}
+use Rattle.appending.specs.Progress.{appended-end}
+use Rattle.map_blocks.specs.Pass.{Passing, passing-none, code-small, pixel-painted, pixel-appendable, passing-more, passed}
+use Rattle.map_blocks.proofs.write_blocks.Statement.{statement}
+use Rattle.map_blocks.proofs.write_blocks.Tie as tie
+
+abbrev Inv-loop : tie.InvT-loop
+Inv-loop n map region-colours codes₀ levels₀ colours₀ whole pending₀ codes levels colours pending =
+    Passing n map region-colours (listOf codes₀ levels₀ colours₀) (listOf codes levels colours) pending
+
+abbrev μ-loop : tie.MeasureT-loop
+μ-loop n map region-colours codes₀ levels₀ colours₀ whole pending₀ codes levels colours pending = whole - pending .to
+
+-- Where the call began, where the loop's head is, and where the next pixel's colour is known.
+abbrev entry : tie.After-pixels Inv-loop μ-loop → tie.Start Inv-loop μ-loop
+entry c = c .before .before .before .before .before .before
+
+abbrev begun : tie.After-struct-known2 Inv-loop μ-loop → tie.At-loop Inv-loop μ-loop
+begun c = c .before .before .before
+
+abbrev seen : tie.After-append Inv-loop μ-loop → tie.After-colour-at Inv-loop μ-loop
+seen c = c .before .before .before .before
+
+pixels-requires : tie.Need-pixels-requires Inv-loop μ-loop
+pixels-requires c κs = search needs
+
+loop-holds : tie.Need-loop-holds Inv-loop μ-loop
+loop-holds c = passing-none (entry c .pre)
+
+cast-colour-at : tie.Need-cast-colour-at Inv-loop μ-loop
+cast-colour-at c =
+    let l = begun c in
+    omega (arith, code-small (entry (l .before) .pre) (l .before .pixels .ensures) (l .loop .inv) (c .before .if1 .taken))
+
+colour-at-requires : tie.Need-colour-at-requires Inv-loop μ-loop
+colour-at-requires c κs =
+    let l = begun c in
+    pixel-painted (entry (l .before) .pre) (l .before .pixels .ensures) (l .loop .inv) (c .before .if1 .taken)
+
+append-requires : tie.Need-append-requires Inv-loop μ-loop
+append-requires c κs =
+    let d = c .before .before .before .before in
+    let l = begun d in
+    pixel-appendable (entry (l .before) .pre) (l .before .pixels .ensures) (l .loop .inv) (d .before .if1 .taken)
+
+loop-less : tie.Need-loop-less Inv-loop μ-loop
+loop-less c =
+    let done = c .before .before .before .before .before .before in
+    omega (arith, appended-end (done .append .ensures), seen done .before .before .if1 .taken)
+
+loop-again : tie.Need-loop-again Inv-loop μ-loop
+loop-again c =
+    let done = c .before .before .before .before .before .before in
+    let d = seen done in
+    let l = begun (d .before) in
+    passing-more (entry (l .before) .pre) (l .before .pixels .ensures) (l .loop .inv) (d .before .before .if1 .taken) (d .colour-at .ensures) (done .append .ensures)
+
+write-run-requires : tie.Need-write-run-requires Inv-loop μ-loop
+write-run-requires c κs = c .before .before .before .before .before .loop .inv .writable
+
+returns : tie.Need-returns Inv-loop μ-loop
+returns c =
+    let w = c .before .before .before .before .before .before in
+    let e = w .before .before .before .before in
+    let l = e .before .before in
+    passed (entry (l .before) .pre) (l .before .pixels .ensures) (l .loop .inv) (e .if1 .left) (w .write-run .ensures)
+
+same-length : tie.Need-same-length Inv-loop μ-loop
+same-length c = returns c .same .for-codes
+
+same-length-2 : tie.Need-same-length-2 Inv-loop μ-loop
+same-length-2 c = returns c .same .for-levels
+
+same-length-3 : tie.Need-same-length-3 Inv-loop μ-loop
+same-length-3 c = returns c .same .for-colours
+
+pub write-blocks-spec : {M : Type 1} → statement M
+write-blocks-spec =
+    tie.close
+    (tie.spec
+    Inv-loop
+    μ-loop
+    pixels-requires
+    loop-holds
+    cast-colour-at
+    colour-at-requires
+    append-requires
+    loop-less
+    loop-again
+    write-run-requires
+    same-length
+    same-length-2
+    same-length-3
+    returns)
