@@ -5,3 +5,4 @@ pub mod LaidOver
 pub mod TouchedUp
 pub mod AreasAddUp
 pub mod Cutting
+pub mod GivenBack

@@ -14,8 +14,7 @@ use Rattle.steps.specs.Look.{Square}
 use Rattle.given_outlines.specs.Given.{cyclesIn}
 use Rattle.given_outlines.specs.Agreeing.{Agreeing, PartHeld, part-held, length-held}
 use Rattle.given_outlines.specs.Candidate.{stands, ownerOf, regionFrom}
-use Rattle.west_sides.specs.Northward.{stores, norths, Fits, length-stores, stored-by-edges}
-use Rattle.west_sides.specs.Legs.{Stored}
+use Rattle.west_sides.specs.Northward.{stores, norths, Fits, Stored, length-stores, stored-by-edges}
 
 -- All outlines of a list, each with 1 plus its owner.
 unfoldable pub storeAll : ℕ → List Cycle → List ℕ → List ℕ
@@ -104,10 +103,6 @@ pub record NextCycle (side count units₀ : ℕ) (es : List ℕ) (l : List Cycle
 pub first-cycle : (side count units : ℕ) (es : List ℕ) (l : List Cycle) (w : List ℕ) → NextCycle side count units es l w w units 0 0
 unfolding beginOf
 first-cycle side count units es l w = record { begins = refl; long = refl; stored = refl; enough = λ f. f; needed = λ f. f }
-
-pub square-still : {side count units₀ units from k : ℕ} {es w₀ w : List ℕ} {l : List Cycle} → Square side w₀
-    → NextCycle side count units₀ es l w₀ w units from k → Square side w
-square-still h g = record { small = h .small; room = omega (arith, h .room, g .long) }
 
 cycle-at : (l : List Cycle) (k : ℕ) → k < length l → drop k l ≡ (record { region = getD (owners l) k 0; points = pointsAt l k }) ∷ drop (suc k) l
 unfolding owners pointsAt

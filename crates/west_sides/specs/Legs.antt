@@ -2,7 +2,7 @@
 -- it is enough to look at the corner where it begins.
 use mathlib.Core.Path.{_≡_, refl, sym, ap, ap₂, _∙_, subst}
 use mathlib.Core.Logic.{_≢_, _⊎_, inl, inr}
-use mathlib.Core.Bool.{Bool, true, false, false≢true}
+use mathlib.Core.Bool.{true, false}
 use mathlib.Core.List.{List, _∷_}
 use Prim.Native.Nat.{ℕ, zero, suc, _+_, _-_, _*_, _/_, _%_, _≤_, _<_}
 use native.Mathlib.Nat.{suc-mul, mul-le-mul-right}
@@ -15,7 +15,8 @@ use Rattle.lattice.specs.Walks.{run, straight}
 use Rattle.lattice.specs.Legs.{straight-is, one-of-four}
 use Rattle.lattice.specs.Outlines.{x-of-point, y-of-point, tail-edge, digit-edge}
 use Rattle.orbits.specs.Members.{In, in-first, in-cases, in-none}
-use Rattle.west_sides.specs.Northward.{placeRight, PixelInside, stores, norths, Fits, store-north, norths-north, stores-none, norths-none}
+use Rattle.west_sides.specs.Northward.{placeRight, PixelInside, stores, norths, Fits, Stored}
+use Rattle.west_sides.specs.Northward.{store-north, norths-north, stores-none, norths-none, all-stored, not-stored}
 
 -- ---- a northward run
 
@@ -54,26 +55,6 @@ run-inside side (suc k) p e a b h i =
           y-inside = subst (λ (z : ℕ). z / 512 ≤ side) (sym t) b;
         })
     pick (inr j) ih = ih j
-
--- ---- what storing a list of edges answers and leaves in the map
-
--- All edges are stored, and so many units are left.
-pub record AllStored (side r units : ℕ) (es w w′ : List ℕ) (left : ℕ) : Type 0 where
-  pub fits : Fits side units es
-  pub stored : w′ ≡ stores side r es w
-  pub units-left : left ≡ units - norths es
-
--- Either they are, or they can't be: then what the map holds is free.
-pub record Stored (side r units : ℕ) (es w w′ : List ℕ) (ok : Bool) (left : ℕ) : Type 0 where
-  pub long : length w′ ≡ length w
-  pub done : ok ≡ true → AllStored side r units es w w′ left
-  pub none : ok ≡ false → Fits side units es → ⊥
-
-pub all-stored : {side r units left : ℕ} {es w w′ : List ℕ} → length w′ ≡ length w → AllStored side r units es w w′ left → Stored side r units es w w′ true left
-all-stored long a = record { long = long; done = λ z. a; none = λ z f. false≢true (sym z) }
-
-pub not-stored : {side r units left : ℕ} {es w w′ : List ℕ} → length w′ ≡ length w → (Fits side units es → ⊥) → Stored side r units es w w′ false left
-not-stored long no-fit = record { long = long; done = λ z. absurd (false≢true z); none = λ z. no-fit }
 
 -- ---- a leg from p to q
 

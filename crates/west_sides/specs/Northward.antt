@@ -2,7 +2,7 @@
 -- ones. How many northward edges there are, and that their pixels lie inside the image.
 use mathlib.Core.Path.{_≡_, refl, sym, ap, ap₂, _∙_}
 use mathlib.Core.Logic.{_≢_, _⊎_, inl, inr}
-use mathlib.Core.Bool.{Bool, true, false, cond}
+use mathlib.Core.Bool.{Bool, true, false, cond, false≢true}
 use mathlib.Core.List.{List, [], _∷_, _++_}
 use Prim.Native.Nat.{ℕ, zero, suc, _+_, _-_, _*_, _/_, _%_, _≤_, _<_}
 use native.Mathlib.Decide.{ℕ-discrete}
@@ -16,6 +16,7 @@ use Rattle.sequences.specs.Cases.{first, when, first-some}
 use Rattle.lattice.specs.Directions.{point, xOf, yOf, edge, tail, digit}
 use Rattle.orbits.specs.Members.{In, in-first, in-later, in-append, in-left, in-right}
 use Rattle.grid.specs.Sides.{sideAt}
+use Rattle.steps.specs.Look.{Square}
 use Rattle.given_outlines.specs.Candidate.{stands}
 use Rattle.given_outlines.specs.Complete.{stands-here, stands-later}
 
@@ -51,6 +52,18 @@ pub record Fits (side units : ℕ) (es : List ℕ) : Type 0 where
   pub inside : (e : ℕ) → In e es → digit e ≡ 1 → PixelInside side e
   pub few : norths es ≤ units
 
+-- All edges of a list are stored, and so many units are left.
+pub record AllStored (side r units : ℕ) (es w w′ : List ℕ) (left : ℕ) : Type 0 where
+  pub fits : Fits side units es
+  pub stored : w′ ≡ stores side r es w
+  pub units-left : left ≡ units - norths es
+
+-- What storing them answers and leaves in the map: either all are stored, or they can't be, and then what the map holds is free.
+pub record Stored (side r units : ℕ) (es w w′ : List ℕ) (ok : Bool) (left : ℕ) : Type 0 where
+  pub long : length w′ ≡ length w
+  pub done : ok ≡ true → AllStored side r units es w w′ left
+  pub none : ok ≡ false → Fits side units es → ⊥
+
 -- ---- one edge
 
 pub store-north : (side r : ℕ) (w : List ℕ) (e : ℕ) → digit e ≡ 1 → store side r w e ≡ set w (placeRight side e) r
@@ -72,7 +85,7 @@ pub norths-north : (e : ℕ) (es : List ℕ) → digit e ≡ 1 → norths (e ∷
 unfolding norths when
 norths-north e es h = ap (λ (t : Bool). when t 1 + norths es) (eq-eqb (digit e) 1 h) ∙ omega arith
 
-norths-other : (e : ℕ) (es : List ℕ) → digit e ≢ 1 → norths (e ∷ es) ≡ norths es
+pub norths-other : (e : ℕ) (es : List ℕ) → digit e ≢ 1 → norths (e ∷ es) ≡ norths es
 unfolding norths when
 norths-other e es h = ap (λ (t : Bool). when t 1 + norths es) (ne-eqb (digit e) 1 h) ∙ omega arith
 
@@ -92,15 +105,6 @@ pub norths-append : (xs ys : List ℕ) → norths (xs ++ ys) ≡ norths xs + nor
 unfolding norths
 norths-append [] ys = omega arith
 norths-append (x ∷ xs) ys = omega (arith, norths-append xs ys)
-
-pub norths-at-most : (es : List ℕ) → norths es ≤ length es
-unfolding norths
-norths-at-most [] = omega arith
-norths-at-most (e ∷ es) = pick (ℕ-discrete (digit e) 1) (norths-at-most es)
-  where
-    pick : Dec (digit e ≡ 1) → norths es ≤ length es → norths (e ∷ es) ≤ length (e ∷ es)
-    pick (yes h) ih = omega (arith, norths-north e es h)
-    pick (no h) ih = omega (arith, norths-other e es h)
 
 -- Edges of other directions store nothing.
 pub stores-none : (side r : ℕ) (es w : List ℕ) → ((e : ℕ) → In e es → digit e ≢ 1) → stores side r es w ≡ w
@@ -133,6 +137,19 @@ pub fits-second : (side units : ℕ) (xs ys : List ℕ) → Fits side units (xs 
 fits-second side units xs ys f =
     record { inside = λ e i z. f .inside e (in-right e xs ys i) z; few = omega (arith, norths-append xs ys, f .few) }
 
+-- ---- the answer
+
+pub all-stored : {side r units left : ℕ} {es w w′ : List ℕ} → length w′ ≡ length w → AllStored side r units es w w′ left
+    → Stored side r units es w w′ true left
+all-stored long a = record { long = long; done = λ z. a; none = λ z f. false≢true (sym z) }
+
+pub not-stored : {side r units left : ℕ} {es w w′ : List ℕ} → length w′ ≡ length w → (Fits side units es → ⊥) → Stored side r units es w w′ false left
+not-stored long no-fit = record { long = long; done = λ z. absurd (false≢true z); none = λ z. no-fit }
+
+-- A map that keeps its length has an entry for each pixel still.
+pub still-square : {side : ℕ} {w w′ : List ℕ} → length w′ ≡ length w → Square side w → Square side w′
+still-square long h = record { small = h .small; room = omega (arith, h .room) }
+
 -- ---- what the place of a pixel holds then
 
 module _ (side : ℕ) (narrow : side ≤ 256) (x y : ℕ) (x-below : x < side) (y-below : y < side) where
@@ -151,7 +168,7 @@ module _ (side : ℕ) (narrow : side ≤ 256) (x y : ℕ) (x-below : x < side) (
       (omega arith, ap₂ (λ (a b : ℕ). a * side + b) ey ex)
 
   -- Only the pixel's own west side is stored there.
-  place-tells : (e : ℕ) → digit e ≡ 1 → PixelInside side e → placeRight side e ≡ y * side + x → e ≡ sideAt x y 1
+  pub place-tells : (e : ℕ) → digit e ≡ 1 → PixelInside side e → placeRight side e ≡ y * side + x → e ≡ sideAt x y 1
   unfolding placeRight sideAt edge point digit tail xOf yOf
   place-tells e d u q =
       let ex : e / 4 % 512 ≡ x =

@@ -7,9 +7,8 @@ use native.Mathlib.Omega.{arith}
 use lib.ListN.{length, getD, drop, drop-of-length-le}
 use lib.Seq.{drop-cons}
 use Rattle.lattice.specs.Walks.{straight, walkFrom, outline}
-use Rattle.steps.specs.Look.{Square}
-use Rattle.west_sides.specs.Northward.{stores, norths, Fits, stores-append, norths-append, fits-both, fits-first, fits-second}
-use Rattle.west_sides.specs.Legs.{AllStored, Stored, all-stored}
+use Rattle.orbits.specs.Members.{in-none}
+use Rattle.west_sides.specs.Northward.{stores, norths, Fits, AllStored, Stored, stores-append, norths-append, fits-both, fits-first, fits-second, all-stored}
 
 -- The edges `rest` are left to store in w with `units` left: that is as good as all edges in w₀ with all units.
 pub record Remaining (side r units₀ : ℕ) (all w₀ rest w : List ℕ) (units : ℕ) : Type 0 where
@@ -24,8 +23,8 @@ all-left side r units all w = record { long = refl; stored = refl; units-left = 
 
 module _ {side r units₀ units : ℕ} {all w₀ w : List ℕ} where
   -- One stretch of them more is stored.
-  fewer-left : {xs ys w′ : List ℕ} {left : ℕ} → Remaining side r units₀ all w₀ (xs ++ ys) w units → length w′ ≡ length w → AllStored side r units xs w w′ left
-      → Remaining side r units₀ all w₀ ys w′ left
+  fewer-left : {xs ys w′ : List ℕ} {left : ℕ} → Remaining side r units₀ all w₀ (xs ++ ys) w units → length w′ ≡ length w
+      → AllStored side r units xs w w′ left → Remaining side r units₀ all w₀ ys w′ left
   fewer-left {xs} {ys} {w′} {left} g long a = record {
     long = long ∙ g .long;
     stored = ap (stores side r ys) (a .stored) ∙ sym (stores-append side r xs ys w) ∙ g .stored;
@@ -53,8 +52,8 @@ pub record NextLeg (side r units₀ : ℕ) (points w₀ w : List ℕ) (p units i
 -- An outline without corners has no edge.
 pub no-corners : (side r units : ℕ) (points w : List ℕ) → length points ≡ 0 → Stored side r units (outline points) w w true units
 unfolding outline stores norths
-no-corners side r units [] w h = last-stored (all-left side r units [] w)
-    (all-stored refl (record { fits = record { inside = λ e i z. absurd (omega (arith, i .1)); few = omega arith }; stored = refl; units-left = omega arith }))
+no-corners side r units [] w h =
+    all-stored refl (record { fits = record { inside = λ e i z. in-none e i; few = omega arith }; stored = refl; units-left = omega arith })
 no-corners side r units (p ∷ ps) w h = absurd (omega arith)
 
 pub first-leg : (side r units : ℕ) (points w : List ℕ) → 0 < length points → NextLeg side r units points w w (getD points 0 0) units 1
@@ -63,9 +62,6 @@ first-leg side r units [] w h = absurd (omega arith)
 first-leg side r units (p ∷ ps) w h = record { left = all-left side r units (outline (p ∷ ps)) w }
 
 module _ {side r units₀ p units i : ℕ} {points w₀ w : List ℕ} (g : NextLeg side r units₀ points w₀ w p units i) where
-  pub square-still : Square side w₀ → Square side w
-  square-still h = record { small = h .small; room = omega (arith, h .room, g .left .long) }
-
   legs-left : i < length points
       → Remaining side r units₀ (outline points) w₀ (straight p (getD points i 0) ++ walkFrom (getD points i 0) (drop (suc i) points) (getD points 0 0)) w units
   unfolding walkFrom
@@ -87,11 +83,13 @@ module _ {side r units₀ p units i : ℕ} {points w₀ w : List ℕ} (g : NextL
     long = s .long ∙ g .left .long;
     done = λ t. absurd (false≢true (sym z ∙ t));
     none = λ _ f.
-        s .none z (fits-first side units (straight p (getD points i 0)) (walkFrom (getD points i 0) (drop (suc i) points) (getD points 0 0)) (legs-left h .needed f));
+        let q : ℕ = getD points i 0 in
+        s .none z (fits-first side units (straight p q) (walkFrom q (drop (suc i) points) (getD points 0 0)) (legs-left h .needed f));
   }
 
   pub closing-leg : {w′ : List ℕ} {ok : Bool} {left : ℕ} → length points ≤ i → Stored side r units (straight p (getD points 0 0)) w w′ ok left
       → Stored side r units₀ (outline points) w₀ w′ ok left
   unfolding walkFrom
   closing-leg h s =
-      last-stored (subst (λ (ps : List ℕ). Remaining side r units₀ (outline points) w₀ (walkFrom p ps (getD points 0 0)) w units) (drop-of-length-le points h) (g .left)) s
+      last-stored
+      (subst (λ (ps : List ℕ). Remaining side r units₀ (outline points) w₀ (walkFrom p ps (getD points 0 0)) w units) (drop-of-length-le points h) (g .left)) s

@@ -89,10 +89,14 @@ module _ {row₀ row : List ℕ} {west i : ℕ} (g : InRow row₀ row west i) wh
 abbrev pub entryAt : ℕ → List ℕ → ℕ → ℕ → ℕ
 entryAt side w y x = getD w (y * side + x) 0
 
+-- The row y of w is filled in w′, from a first entry that is not 0.
+abbrev pub RowTold : ℕ → List ℕ → List ℕ → ℕ → Type 0
+RowTold side w w′ y = (0 < entryAt side w y 0) × ((x : ℕ) → x < side → entryAt side w′ y x ≡ fromWest (entryAt side w y) x)
+
 -- All rows are filled, or the first entry of one is 0: then what the map holds is free.
 pub record RowsFilled (side : ℕ) (w w′ : List ℕ) (ok : Bool) : Type 0 where
   pub long : length w′ ≡ length w
-  pub told : ok ≡ true → (y : ℕ) → y < side → (0 < entryAt side w y 0) × ((x : ℕ) → x < side → entryAt side w′ y x ≡ fromWest (entryAt side w y) x)
+  pub told : ok ≡ true → (y : ℕ) → y < side → RowTold side w w′ y
   pub none : ok ≡ false → (y : ℕ) × (y < side) × (entryAt side w y 0 ≡ 0)
 
 -- The rows before the place `from` are filled, the others are as they were.
@@ -100,38 +104,37 @@ pub record NextRow (side : ℕ) (w₀ w : List ℕ) (from : ℕ) : Type 0 where
   pub row : ℕ
   pub place : from ≡ row * side
   pub long : length w ≡ length w₀
-  pub done : (y : ℕ) → y < row → (0 < entryAt side w₀ y 0) × ((x : ℕ) → x < side → entryAt side w y x ≡ fromWest (entryAt side w₀ y) x)
+  pub done : (y : ℕ) → y < row → RowTold side w₀ w y
   pub rest : (j : ℕ) → from ≤ j → getD w j 0 ≡ getD w₀ j 0
 
 pub rows-begin : (side : ℕ) (w : List ℕ) → NextRow side w w 0
 rows-begin side w = record { row = 0; place = omega arith; long = refl; done = λ y h. absurd (omega arith); rest = λ j h. refl }
 
 -- A part of a list that is lent as `&mut list[from..end]`, and the list once the part has come back.
-module _ (from end : ℕ) (xs : List ℕ) (rises : from ≤ end) (inside : end ≤ length xs) where
-  lent-at : (x : ℕ) → x < end - from → getD (midOf from (end - from) xs) x 0 ≡ getD xs (from + x) 0
-  lent-at x h = getD-take (end - from) (drop from xs) x 0 h ∙ getD-drop from xs x 0
+lent-at : (from end : ℕ) (xs : List ℕ) (x : ℕ) → x < end - from → getD (midOf from (end - from) xs) x 0 ≡ getD xs (from + x) 0
+lent-at from end xs x h = getD-take (end - from) (drop from xs) x 0 h ∙ getD-drop from xs x 0
 
-  module _ (ys : List ℕ) (size : length ys ≡ end - from) where
-    back-before : (j : ℕ) → j < from → getD (putMid from (end - from) xs ys) j 0 ≡ getD xs j 0
-    back-before j h =
-        sym (getD-take from (putMid from (end - from) xs ys) j 0 h)
-        ∙ ap (λ (l : List ℕ). getD l j 0) (take-put from (end - from) xs ys (omega arith))
-        ∙ getD-take from xs j 0 h
+module _ (from end : ℕ) (xs ys : List ℕ) (rises : from ≤ end) (inside : end ≤ length xs) (size : length ys ≡ end - from) where
+  back-before : (j : ℕ) → j < from → getD (putMid from (end - from) xs ys) j 0 ≡ getD xs j 0
+  back-before j h =
+      sym (getD-take from (putMid from (end - from) xs ys) j 0 h)
+      ∙ ap (λ (l : List ℕ). getD l j 0) (take-put from (end - from) xs ys (omega arith))
+      ∙ getD-take from xs j 0 h
 
-    back-inside : (x : ℕ) → x < end - from → getD (putMid from (end - from) xs ys) (from + x) 0 ≡ getD ys x 0
-    back-inside x h =
-        ap (λ (k : ℕ). getD (putMid from (end - from) xs ys) (k + x) 0) (sym (length-take-le from xs (omega arith)))
-        ∙ getD-append-add (take from xs) (ys ++ postOf from (end - from) xs) x 0
-        ∙ List·getD-append ys (postOf from (end - from) xs) 0 x (omega arith)
+  back-inside : (x : ℕ) → x < end - from → getD (putMid from (end - from) xs ys) (from + x) 0 ≡ getD ys x 0
+  back-inside x h =
+      ap (λ (k : ℕ). getD (putMid from (end - from) xs ys) (k + x) 0) (sym (length-take-le from xs (omega arith)))
+      ∙ getD-append-add (take from xs) (ys ++ postOf from (end - from) xs) x 0
+      ∙ List·getD-append ys (postOf from (end - from) xs) 0 x (omega arith)
 
-    back-after : (j : ℕ) → end ≤ j → getD (putMid from (end - from) xs ys) j 0 ≡ getD xs j 0
-    back-after j h =
-        let e : end + (j - end) ≡ j = omega arith in
-        ap (λ (i : ℕ). getD (putMid from (end - from) xs ys) i 0) (sym e)
-        ∙ sym (getD-drop end (putMid from (end - from) xs ys) (j - end) 0)
-        ∙ ap (λ (l : List ℕ). getD l (j - end) 0) (drop-put from end xs ys rises inside size)
-        ∙ getD-drop end xs (j - end) 0
-        ∙ ap (λ (i : ℕ). getD xs i 0) e
+  back-after : (j : ℕ) → end ≤ j → getD (putMid from (end - from) xs ys) j 0 ≡ getD xs j 0
+  back-after j h =
+      let e : end + (j - end) ≡ j = omega arith in
+      ap (λ (i : ℕ). getD (putMid from (end - from) xs ys) i 0) (sym e)
+      ∙ sym (getD-drop end (putMid from (end - from) xs ys) (j - end) 0)
+      ∙ ap (λ (l : List ℕ). getD l (j - end) 0) (drop-put from end xs ys rises inside size)
+      ∙ getD-drop end xs (j - end) 0
+      ∙ ap (λ (i : ℕ). getD xs i 0) e
 
 module _ {side from : ℕ} {w₀ w : List ℕ} (size : length w₀ ≡ side * side) (g : NextRow side w₀ w from) where
   row-inside : from < length w → g .row < side
@@ -171,7 +174,7 @@ module _ {side from : ℕ} {w₀ w : List ℕ} (size : length w₀ ≡ side * si
 
     lent-entry : (x : ℕ) → x < side → getD (midOf from (end - from) w) x 0 ≡ entryAt side w₀ (g .row) x
     lent-entry x h =
-        lent-at from end w (omega arith) (omega (arith, row-fits more)) x (omega arith)
+        lent-at from end w x (omega arith)
         ∙ g .rest (from + x) (omega arith)
         ∙ ap (λ (k : ℕ). getD w₀ (k + x) 0) (g .place)
 
@@ -189,7 +192,7 @@ module _ {side from : ℕ} {w₀ w : List ℕ} (size : length w₀ ≡ side * si
         place = omega (arith, g .place, suc-mul (g .row) side);
         long = same-len-mid from (end - from) w row′ (s .long) ∙ g .long;
         done = λ y h. pick y h (ℕ-discrete y (g .row));
-        rest = λ j h. back-after from end w (omega arith) fits row′ whole j (omega arith) ∙ g .rest j (omega arith);
+        rest = λ j h. back-after from end w row′ (omega arith) fits whole j (omega arith) ∙ g .rest j (omega arith);
       }
         where
           fits : end ≤ length w
@@ -201,19 +204,18 @@ module _ {side from : ℕ} {w₀ w : List ℕ} (size : length w₀ ≡ side * si
           here : (x : ℕ) → x < side → entryAt side (putMid from (end - from) w row′) (g .row) x ≡ fromWest (entryAt side w₀ (g .row)) x
           here x h =
               ap (λ (k : ℕ). getD (putMid from (end - from) w row′) (k + x) 0) (sym (g .place))
-              ∙ back-inside from end w (omega arith) fits row′ whole x (omega arith)
+              ∙ back-inside from end w row′ (omega arith) fits whole x (omega arith)
               ∙ s .told z .1 x (omega (arith, lent-size))
               ∙ from-west-same (λ i. getD (midOf from (end - from) w) i 0) (entryAt side w₀ (g .row)) x (λ i k. lent-entry i (omega arith))
 
-          pick : (y : ℕ) → y < suc (g .row) → Dec (y ≡ g .row)
-              → (0 < entryAt side w₀ y 0) × ((x : ℕ) → x < side → entryAt side (putMid from (end - from) w row′) y x ≡ fromWest (entryAt side w₀ y) x)
+          pick : (y : ℕ) → y < suc (g .row) → Dec (y ≡ g .row) → RowTold side w₀ (putMid from (end - from) w row′) y
           pick y h (yes e) =
-              subst (λ (t : ℕ). (0 < entryAt side w₀ t 0) × ((x : ℕ) → x < side → entryAt side (putMid from (end - from) w row′) t x ≡ fromWest (entryAt side w₀ t) x))
-              (sym e) (omega (arith, s .told z .0, lent-entry 0 (omega (arith, row-inside more))), here)
+              subst (RowTold side w₀ (putMid from (end - from) w row′)) (sym e)
+              (omega (arith, s .told z .0, lent-entry 0 (omega (arith, row-inside more))), here)
           pick y h (no e) =
               let b : y < g .row = omega arith in (
                 g .done y b .0,
                 λ x less.
-                    back-before from end w (omega arith) fits row′ whole (y * side + x)
+                    back-before from end w row′ (omega arith) fits whole (y * side + x)
                     (omega (arith, g .place, digits-lt {q = y} {m = g .row} {r = x} {c = side} b less)) ∙ g .done y b .1 x less,
               )

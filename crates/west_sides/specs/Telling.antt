@@ -32,7 +32,7 @@ use Rattle.west_sides.specs.Cycles.{AllFit, CyclesHeld, AllOutlinesStore
 use Rattle.west_sides.specs.Needed.{none-where-not-fit}
 use Rattle.west_sides.specs.Rows.{fromWest, from-west-same, entryAt, RowsFilled}
 
--- The same with a map of one entry a pixel.
+-- What telling the regions asks for, with a map of one entry a pixel.
 pub record TellableWhole (n count : ℕ) (os es cs map : List ℕ) : Type 0 where
   pub small : n ≤ 8
   pub agree : Agreeing os es cs
@@ -45,6 +45,7 @@ pub record PixelTold (n count : ℕ) (l : List Cycle) (map : List ℕ) (x y : �
   pub some : 0 < regionFrom l y x
   pub at-most : regionFrom l y x ≤ count
 
+-- All pixels are told, or no image has these outlines: then what the map holds is free.
 pub record WholeTold (n count : ℕ) (l : List Cycle) (map map′ : List ℕ) (ok : Bool) : Type 0 where
   pub long : length map′ ≡ length map
   pub told : ok ≡ true → (x y : ℕ) → x < 2 ^ n → y < 2 ^ n → PixelTold n count l map′ x y
@@ -73,7 +74,8 @@ unfolding regionFrom
 some-region l y zero h = h
 some-region l y (suc x) h = first-positive (ownerOf l (sideAt (suc x) y 1)) (regionFrom l y x) (some-region l y x h)
 
-module _ {n count side : ℕ} {os es cs map zeros : List ℕ} (h : TellableWhole n count os es cs map) (e : side ≡ sideOf n) (cleared : zeros ≡ fill map 0 (length map) 0) where
+module _ {n count side : ℕ} {os es cs map zeros : List ℕ} (h : TellableWhole n count os es cs map) (e : side ≡ sideOf n)
+    (cleared : zeros ≡ fill map 0 (length map) 0) where
   abbrev l : List Cycle
   l = cyclesIn os es cs
 
@@ -94,7 +96,7 @@ module _ {n count side : ℕ} {os es cs map zeros : List ℕ} (h : TellableWhole
       let most : 4 ^ n ≤ 65536 = pow4-mono (h .small) in
       record { square = record { small = narrow; room = omega (arith, square) }; agree = h .agree; few-regions = omega (arith, h .few-regions) }
 
-  module _ {w : List ℕ} {ok : Bool} (s : AllOutlinesStored side count (4 * length zeros) l zeros w ok) where
+  module _ {w : List ℕ} {ok : Bool} (s : AllOutlinesStored side count (length zeros) l zeros w ok) where
     pub rows-to-fill : length w ≡ side * side
     rows-to-fill = s .long ∙ square
 
@@ -103,7 +105,7 @@ module _ {n count side : ℕ} {os es cs map zeros : List ℕ} (h : TellableWhole
       long = s .long ∙ same-size;
       told = λ z. absurd (false≢true z);
       none = λ _. none-where-not-fit (h .small)
-          (λ f. s .none z (subst₂ (λ (a b : ℕ). AllFit a count (4 * b) l) (sym side-is) (sym (same-size ∙ h .size)) f));
+          (λ f. s .none z (subst₂ (λ (a b : ℕ). AllFit a count b l) (sym side-is) (sym (same-size ∙ h .size)) f));
     }
 
     module _ (stored : ok ≡ true) where
@@ -115,7 +117,7 @@ module _ {n count side : ℕ} {os es cs map zeros : List ℕ} (h : TellableWhole
           ap (λ (t : List ℕ). entryAt side t y x) cleared
           ∙ fill-inside map 0 (length map) 0 (y * side + x) (omega arith) (omega arith) (omega (arith, square, same-size)) in
           ap (λ (t : List ℕ). entryAt side t y x) (s .done stored .1)
-          ∙ stored-by-all side narrow x y a b count (4 * length zeros) l zeros (omega (arith, square)) (s .done stored .0)
+          ∙ stored-by-all side narrow x y a b count (length zeros) l zeros (omega (arith, square)) (s .done stored .0)
           ∙ ap (first (ownerOf l (sideAt x y 1))) zero-there
           ∙ first-zero-right (ownerOf l (sideAt x y 1))
 
@@ -134,7 +136,7 @@ module _ {n count side : ℕ} {os es cs map zeros : List ℕ} (h : TellableWhole
                   ∙ from-west-same (entryAt side w y) (λ i. ownerOf l (sideAt i y 1)) x (λ i less. owner-stored i y (omega arith) d)
                   ∙ from-west-is-region l y x;
               some = some-region l y x (omega (arith, t .0, owner-stored 0 y (omega arith) d));
-              at-most = region-at-most side count (4 * length zeros) l y x (s .done stored .0);
+              at-most = region-at-most side count (length zeros) l y x (s .done stored .0);
             };
         none = λ z. from (r .none z);
       }

@@ -8,8 +8,7 @@ ghost use Rattle.lattice.specs.Directions.{point};
 ghost use Rattle.lattice.specs.Walks.{run, straight, outline};
 ghost use Rattle.steps.specs.Look.{Square};
 ghost use Rattle.given_outlines.specs.Given.{cyclesIn};
-ghost use Rattle.west_sides.specs.Northward.{stores};
-ghost use Rattle.west_sides.specs.Legs.{Stored};
+ghost use Rattle.west_sides.specs.Northward.{stores, Stored};
 ghost use Rattle.west_sides.specs.Cycles.{CyclesHeld, AllOutlinesStored};
 ghost use Rattle.west_sides.specs.Rows.{RowFilled, RowsFilled};
 ghost use Rattle.west_sides.specs.Telling.{TellableWhole, WholeTold};
@@ -74,7 +73,8 @@ fn store_outline(map: &mut [u32], side: usize, points: &[u32], r: u32, units: us
             units: units,
         };
     }
-    let mut p = points[0];
+    let first = points[0];
+    let mut p = first;
     let mut left = units;
     let mut i: usize = 1;
     while i < points.len() {
@@ -87,11 +87,11 @@ fn store_outline(map: &mut [u32], side: usize, points: &[u32], r: u32, units: us
         p = q;
         i += 1;
     }
-    store_leg(map, side, p, points[0], r, left)
+    store_leg(map, side, p, first, r, left)
 }
 
 // Stores 1 plus the owner of each cycle along its northward legs, later cycles over earlier ones. Gives false where an owner is not below the
-// count of regions, a northward leg begins outside the image, or there are more northward units than 4 a pixel.
+// count of regions, a northward leg begins outside the image, or there are more northward units than pixels.
 fn store_cycles(
     map: &mut [u32],
     side: usize,
@@ -101,10 +101,10 @@ fn store_cycles(
     corners: &[u32],
 ) -> bool
     requires { ⌜ CyclesHeld side regions (now owners) (now ends) (now corners) (now map) ⌝ }
-    ensures { λ ok. ⌜ AllOutlinesStored side regions (4 * length (now (map .entry))) (cyclesIn (now (owners .entry)) (now (ends .entry)) (now (corners .entry)))
+    ensures { λ ok. ⌜ AllOutlinesStored side regions (length (now (map .entry))) (cyclesIn (now (owners .entry)) (now (ends .entry)) (now (corners .entry)))
         (now (map .entry)) (now (map .exit)) ok ⌝ }
 {
-    let mut units = 4 * map.len();
+    let mut units = map.len();
     let mut from: usize = 0;
     let mut k: usize = 0;
     while k < ends.len() {
@@ -140,11 +140,11 @@ fn fill_row(row: &mut [u32]) -> bool
     if west == 0 {
         return false;
     }
-    let mut i: usize = 1;
-    while i < row.len() {
-        west = own_or_west(row[i], west);
-        row[i] = west;
-        i += 1;
+    let mut x: usize = 1;
+    while x < row.len() {
+        west = own_or_west(row[x], west);
+        row[x] = west;
+        x += 1;
     }
     true
 }

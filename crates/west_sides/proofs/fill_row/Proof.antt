@@ -1,4 +1,4 @@
--- The loop's invariant: the places before i are filled, and `west` is the entry of the last of them. The measure: the places that are left.
+-- The loop's invariant: the places before x are filled, and `west` is the entry of the last of them. The measure: the places that are left.
 use Prim.Native.Nat.{_-_}
 use native.Mathlib.Omega.{arith}
 use lib.ListN.{length}
@@ -8,10 +8,10 @@ use Rattle.west_sides.proofs.fill_row.Statement.{statement}
 use Rattle.west_sides.proofs.fill_row.Tie as tie
 
 abbrev Inv-loop : tie.InvT-loop
-Inv-loop row₀ west₀ i₀ row west i = InRow row₀ row west i
+Inv-loop row₀ west₀ x₀ row west x = InRow row₀ row west x
 
 abbrev μ-loop : tie.MeasureT-loop
-μ-loop row₀ west₀ i₀ row west i = length row₀ - i
+μ-loop row₀ west₀ x₀ row west x = length row₀ - x
 
 slice-read-west : tie.Need-slice-read-west Inv-loop μ-loop
 slice-read-west c = search needs
@@ -37,8 +37,8 @@ mul-row c = search needs
 slice-write-row : tie.Need-slice-write-row Inv-loop μ-loop
 slice-write-row c = search needs
 
-add-i : tie.Need-add-i Inv-loop μ-loop
-add-i c = search needs
+add-x : tie.Need-add-x Inv-loop μ-loop
+add-x c = search needs
 
 loop-less : tie.Need-loop-less Inv-loop μ-loop
 loop-less c = search needs
@@ -66,7 +66,7 @@ fill-row-spec =
     own-or-west-requires
     mul-row
     slice-write-row
-    add-i
+    add-x
     loop-less
     loop-again
     same-length

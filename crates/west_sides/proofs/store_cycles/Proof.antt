@@ -1,9 +1,10 @@
 -- The loop's invariant: to store the cycles from k on with the units left is as good as all of them. The measure: the cycles that are left.
-use Prim.Native.Nat.{_-_, _*_, _≤_}
+use Prim.Native.Nat.{_-_, _≤_}
 use native.Mathlib.Omega.{arith}
 use lib.ListN.{length, getD}
 use Rattle.given_outlines.specs.Given.{cyclesIn}
-use Rattle.west_sides.specs.Cycles.{NextCycle, first-cycle, corners-stand, square-still, no-such-owner, cycle-not-stored, one-cycle-more, all-cycles-stored}
+use Rattle.west_sides.specs.Northward.{still-square}
+use Rattle.west_sides.specs.Cycles.{NextCycle, first-cycle, corners-stand, no-such-owner, cycle-not-stored, one-cycle-more, all-cycles-stored}
 use borrow.Author.Tests.{not-true, not-false}
 use borrow.Author.Needs.{needs}
 use Rattle.west_sides.proofs.store_cycles.Statement.{statement}
@@ -11,23 +12,23 @@ use Rattle.west_sides.proofs.store_cycles.Tie as tie
 
 abbrev Inv-loop : tie.InvT-loop
 Inv-loop map₀ side regions owners ends corners units₀ from₀ k₀ map units from k =
-    NextCycle side regions (4 * length map₀) ends (cyclesIn owners ends corners) map₀ map units from k
+    NextCycle side regions (length map₀) ends (cyclesIn owners ends corners) map₀ map units from k
 
 abbrev μ-loop : tie.MeasureT-loop
 μ-loop map₀ side regions owners ends corners units₀ from₀ k₀ map units from k = length ends - k
 
-mul-units : tie.Need-mul-units Inv-loop μ-loop
-mul-units c = search needs
-
 loop-holds : tie.Need-loop-holds Inv-loop μ-loop
 loop-holds c = first-cycle _ _ _ _ _ _
 
--- The places that are cited: the function's entry, the loop's head, and the outline that was tried.
+-- The places that are cited: the function's entry, the loop's inside and its head, and the outline that was tried.
 abbrev entry : tie.At-loop Inv-loop μ-loop → tie.Start Inv-loop μ-loop
 entry c = c .before .before .before .before .before
 
+abbrev inside : tie.After-shared-slice-known5 Inv-loop μ-loop → tie.In-loop Inv-loop μ-loop
+inside c = c .before .before .before
+
 abbrev head : tie.After-shared-slice-known5 Inv-loop μ-loop → tie.At-loop Inv-loop μ-loop
-head c = c .before .before .before .before
+head c = inside c .before
 
 abbrev tried : tie.After-struct-known Inv-loop μ-loop → tie.After-store-outline Inv-loop μ-loop
 tried c = c .before .before .before
@@ -63,7 +64,7 @@ stand : (c : tie.After-shared-slice-known5 Inv-loop μ-loop) →
     let l = head c .loop in
     let a = entry (head c) .args in
     (l .from ≤ getD (a .ends .now) (l .k) 0) × (getD (a .ends .now) (l .k) 0 ≤ length (a .corners .now))
-stand c = corners-stand (entry (head c) .pre .agree) (head c .loop .inv) (c .before .before .before .loop-test .taken)
+stand c = corners-stand (entry (head c) .pre .agree) (head c .loop .inv) (inside c .loop-test .taken)
 
 mul-store-outline : tie.Need-mul-store-outline Inv-loop μ-loop
 mul-store-outline c = omega (arith, stand (c .before) .0, stand (c .before) .1, entry (head (c .before)) .fits)
@@ -81,13 +82,14 @@ add-store-outline : tie.Need-add-store-outline Inv-loop μ-loop
 add-store-outline c = search needs
 
 store-outline-requires : tie.Need-store-outline-requires Inv-loop μ-loop
-store-outline-requires c κs = let l = head (c .before .before) in square-still (entry l .pre .square) (l .loop .inv)
+store-outline-requires c κs = let l = head (c .before .before) in still-square (l .loop .inv .long) (entry l .pre .square)
 
 returns-2 : tie.Need-returns-2 Inv-loop μ-loop
 returns-2 c =
     let t = tried (c .before) in
-    let l = head (t .before .before .before) in
-    cycle-not-stored (entry l .pre .agree) (l .loop .inv) (t .before .before .before .before .before .before .loop-test .taken) (t .store-outline .ensures) (not-true _ (c .if2 .taken))
+    let e = t .before .before .before in
+    let l = head e in
+    cycle-not-stored (entry l .pre .agree) (l .loop .inv) (inside e .loop-test .taken) (t .store-outline .ensures) (not-true _ (c .if2 .taken))
 
 same-length-2 : tie.Need-same-length-2 Inv-loop μ-loop
 same-length-2 c = returns-2 c .long
@@ -101,9 +103,10 @@ loop-less c = search needs
 loop-again : tie.Need-loop-again Inv-loop μ-loop
 loop-again c =
     let t = tried (c .before) in
-    let l = head (t .before .before .before) in
-    one-cycle-more (entry l .pre .agree) (l .loop .inv) (t .before .before .before .before .before .before .loop-test .taken) (t .store-outline .ensures)
-    (omega (arith, t .before .before .before .before .if1 .left)) (not-false _ (c .if2 .left))
+    let e = t .before .before .before in
+    let l = head e in
+    one-cycle-more (entry l .pre .agree) (l .loop .inv) (inside e .loop-test .taken) (t .store-outline .ensures)
+    (omega (arith, e .before .if1 .left)) (not-false _ (c .if2 .left))
 
 returns-3 : tie.Need-returns-3 Inv-loop μ-loop
 returns-3 c = all-cycles-stored (entry (c .before) .pre .agree) (c .before .loop .inv) (omega (arith, c .loop-test .left))
@@ -117,7 +120,6 @@ store-cycles-spec =
     (tie.spec
     Inv-loop
     μ-loop
-    mul-units
     loop-holds
     mul-owner
     shared-slice-read-owner

@@ -28,8 +28,11 @@ returns-2 : tie.Need-returns-2
 unfolding xOf yOf
 returns-2 c =
     let n = c .before .if1 .left in
-    ⊎-elim (λ e. leg-east-of-image _ _ _ _ (omega (arith, n)) _ _ _ (e .taken))
-    (⊎-elim (λ e. leg-south-of-image _ _ _ _ (omega (arith, n)) _ _ _ (ltb-true _ _ (e .1 .taken))) (λ e. leg-too-long _ _ _ _ (omega (arith, n)) _ _ _ (ltb-true _ _ (e .2 .taken))))
+    ⊎-elim
+    (λ e. leg-east-of-image _ _ _ _ (omega (arith, n)) _ _ _ (e .taken))
+    (⊎-elim
+    (λ e. leg-south-of-image _ _ _ _ (omega (arith, n)) _ _ _ (ltb-true _ _ (e .1 .taken)))
+    (λ e. leg-too-long _ _ _ _ (omega (arith, n)) _ _ _ (ltb-true _ _ (e .2 .taken))))
     (c .if2 .came)
 
 store-north-requires : tie.Need-store-north-requires

@@ -2,23 +2,24 @@
 use Prim.Native.Nat.{_-_}
 use native.Mathlib.Omega.{arith}
 use lib.ListN.{length}
-use Rattle.west_sides.specs.Outlines.{NextLeg, no-corners, first-leg, one-leg-more, leg-not-stored, closing-leg, square-still}
+use Rattle.west_sides.specs.Northward.{still-square}
+use Rattle.west_sides.specs.Outlines.{NextLeg, no-corners, first-leg, one-leg-more, leg-not-stored, closing-leg}
 use borrow.Author.Tests.{not-true, not-false}
 use borrow.Author.Needs.{needs}
 use Rattle.west_sides.proofs.store_outline.Statement.{statement}
 use Rattle.west_sides.proofs.store_outline.Tie as tie
 
 abbrev Inv-loop : tie.InvT-loop
-Inv-loop map₀ side points r units p₀ left₀ i₀ map p left i = NextLeg side r units points map₀ map p left i
+Inv-loop map₀ side points r units first p₀ left₀ i₀ map p left i = NextLeg side r units points map₀ map p left i
 
 abbrev μ-loop : tie.MeasureT-loop
-μ-loop map₀ side points r units p₀ left₀ i₀ map p left i = length points - i
+μ-loop map₀ side points r units first p₀ left₀ i₀ map p left i = length points - i
 
 returns : tie.Need-returns Inv-loop μ-loop
 returns c = no-corners _ _ _ _ _ (c .if1 .taken)
 
-shared-slice-read-p : tie.Need-shared-slice-read-p Inv-loop μ-loop
-shared-slice-read-p c = search needs
+shared-slice-read-first : tie.Need-shared-slice-read-first Inv-loop μ-loop
+shared-slice-read-first c = search needs
 
 loop-holds : tie.Need-loop-holds Inv-loop μ-loop
 loop-holds c = first-leg _ _ _ _ _ (omega (arith, c .before .if1 .left))
@@ -37,7 +38,7 @@ abbrev entry : tie.At-loop Inv-loop μ-loop → tie.Start Inv-loop μ-loop
 entry c = c .before .before .before .before .before
 
 store-leg-requires : tie.Need-store-leg-requires Inv-loop μ-loop
-store-leg-requires c κs = square-still (head c .loop .inv) (entry (head c) .pre)
+store-leg-requires c κs = still-square (head c .loop .inv .left .long) (entry (head c) .pre)
 
 -- The leg that was tried.
 abbrev leg-tried : tie.After-struct-known Inv-loop μ-loop → tie.After-store-leg Inv-loop μ-loop
@@ -64,17 +65,14 @@ loop-again c =
     let l = head (t .before) in
     one-leg-more (l .loop .inv) (t .before .before .before .loop-test .taken) (t .store-leg .ensures) (not-false _ (c .if2 .left))
 
-shared-slice-read-store-leg : tie.Need-shared-slice-read-store-leg Inv-loop μ-loop
-shared-slice-read-store-leg c = search needs
-
 store-leg-requires-2 : tie.Need-store-leg-requires-2 Inv-loop μ-loop
-store-leg-requires-2 c κs = let l = c .before .before .before in square-still (l .loop .inv) (entry l .pre)
+store-leg-requires-2 c κs = let l = c .before .before in still-square (l .loop .inv .left .long) (entry l .pre)
 
 returns-3 : tie.Need-returns-3 Inv-loop μ-loop
 returns-3 c =
     let s = c .before .before in
-    let l = s .before .before .before .before in
-    closing-leg (l .loop .inv) (omega (arith, s .before .before .before .loop-test .left)) (s .store-leg2 .ensures)
+    let l = s .before .before .before in
+    closing-leg (l .loop .inv) (omega (arith, s .before .before .loop-test .left)) (s .store-leg2 .ensures)
 
 same-length-2 : tie.Need-same-length-2 Inv-loop μ-loop
 same-length-2 c = returns-3 c .long
@@ -86,7 +84,7 @@ store-outline-spec =
     Inv-loop
     μ-loop
     returns
-    shared-slice-read-p
+    shared-slice-read-first
     loop-holds
     mul-q
     shared-slice-read-q
@@ -96,7 +94,6 @@ store-outline-spec =
     add-i
     loop-less
     loop-again
-    shared-slice-read-store-leg
     store-leg-requires-2
     same-length-2
     returns-3)

@@ -1,0 +1,142 @@
+-- What a caller knows, from the promise, about the answer and the lists at exit.
+use mathlib.Core.Path.{_≡_, refl, sym, ap, _∙_, subst}
+use mathlib.Core.Logic.{_⊎_, inl, inr, _↔_}
+use mathlib.Core.Bool.{Bool, true, false, cond, _||_}
+use mathlib.Core.List.{List, []}
+use Prim.Native.Nat.{ℕ, _*_, _^_, _≤_, _<_}
+use native.Mathlib.Decide.{decLt, decLe}
+use native.Mathlib.Omega.{arith}
+use lib.Dec.{eqb}
+use lib.ListN.{length, getD, replicate, length-replicate, getD-replicate}
+use Rattle.sequences.specs.Over.{over, over-none, over-inside, over-beyond}
+use Rattle.answers.specs.declared.Written.{Written}
+use Rattle.quadtree.specs.Fields.{codes, levels, colours}
+use Rattle.quadtree.specs.Quadtree.{quadtree}
+use Rattle.quadtree.specs.BlockLists.{BlockList, listOf, leastLength, RoomFor, room-by-least}
+use Rattle.block_answers.specs.BlockWriters.{resultOf, number-answered, result-is-written, refusal-leaves-all}
+use Rattle.given_outlines.specs.Given.{Given, HasGiven, ListHasGiven}
+use Rattle.given_outlines.specs.Judged.{outlinesNumber, Verdict, given-back, no-such-image, verdict, candidateOf, accepted-has, refused-exactly-when-no-accepted-list, list-of-image, has-accepted, one-list}
+use Rattle.restoring.specs.Promise.{restoringNumber, blocksBack, zerosAfter, Restoring, side-too-large, output-short, work-short, past-eight}
+
+-- Lent lists "of 4^n" for the blocks, and a work list of "8 times 4^n 32-bit entries".
+pub record LongEnough (n : ℕ) (lent : BlockList) (work : List ℕ) : Type 0 where
+  pub room : RoomFor (4 ^ n) lent
+  pub for-work : 8 * 4 ^ n ≤ length work
+
+module _ {n : ℕ} {g : Given} {before after : BlockList} {work₀ work₁ : List ℕ} {r : Written} (p : Restoring n g before work₀ after work₁ r) where
+  answered : r .number ≡ restoringNumber n g before work₀
+  answered = number-answered (p .writes)
+
+  -- ---- "Checks: 1, then 8 .., then new 18 (no such image)"
+
+  pub one-comes-first : 8 < n → r .number ≡ 1
+  one-comes-first h = answered ∙ sym (number-answered (side-too-large n g before work₀ h .writes))
+
+  pub eight-comes-next : n ≤ 8 → (LongEnough n before work₀ → ⊥) → r .number ≡ 8
+  eight-comes-next small short = answered ∙ pick (decLt (leastLength before) (4 ^ n)) (decLt (length work₀) (8 * 4 ^ n))
+    where
+      pick : Dec (leastLength before < 4 ^ n) → Dec (length work₀ < 8 * 4 ^ n) → restoringNumber n g before work₀ ≡ 8
+      pick (yes h) w = sym (number-answered (output-short n g before work₀ small h .writes))
+      pick (no h) (yes w) = sym (number-answered (work-short n g before work₀ small w .writes))
+      pick (no h) (no w) = absurd (short (record { room = room-by-least (omega arith); for-work = omega arith }))
+
+  -- Past 1 and 8:
+  module _ (small : n ≤ 8) (long : LongEnough n before work₀) where
+    number-of-outlines : r .number ≡ outlinesNumber n g
+    number-of-outlines = answered ∙ past-eight n g before work₀ small (long .room) (long .for-work)
+
+    -- "it is refused exactly when no accepted list of that n has those cycles, owners, ends, corners and region colours".
+    pub eighteen-exactly-when-no-accepted-list-has-it : (r .number ≡ 18) ↔ ((a : BlockList) → ListHasGiven n g a → ⊥)
+    eighteen-exactly-when-no-accepted-list-has-it =
+        let e = refused-exactly-when-no-accepted-list n g small in
+        (λ z. e .0 (sym number-of-outlines ∙ z), λ none. number-of-outlines ∙ e .1 none)
+
+    pub zero-exactly-when-an-accepted-list-has-it : (r .number ≡ 0) ↔ ((a : BlockList) × ListHasGiven n g a)
+    zero-exactly-when-an-accepted-list-has-it = (
+      λ z. (listOf (codes (quadtree n (candidateOf n g))) (levels (quadtree n (candidateOf n g))) (colours (quadtree n (candidateOf n g))),
+          list-of-image n g small (candidateOf n g) (accepted-has n g (sym number-of-outlines ∙ z))),
+      λ some. number-of-outlines ∙ has-accepted n g small _ (some .1 .has) .0,
+    )
+
+    pub zero-or-eighteen : (r .number ≡ 0) ⊎ (r .number ≡ 18)
+    zero-or-eighteen = pick (verdict n g)
+      where
+        pick : Verdict n g → (r .number ≡ 0) ⊎ (r .number ≡ 18)
+        pick (given-back a h) = inl (number-of-outlines ∙ a)
+        pick (no-such-image a f) = inr (number-of-outlines ∙ a)
+
+  -- 0 and 18 are answered past 1 and 8 only.
+  pub asked-past-eight : (r .number ≡ 0) ⊎ (r .number ≡ 18) → (n ≤ 8) × LongEnough n before work₀
+  asked-past-eight said = pick (decLt 8 n) (decLe (4 ^ n) (leastLength before)) (decLe (8 * 4 ^ n) (length work₀))
+    where
+      other : {k : ℕ} → 0 < k → k < 18 → r .number ≡ k → ⊥
+      other {k} a b e = by said
+        where
+          by : (r .number ≡ 0) ⊎ (r .number ≡ 18) → ⊥
+          by (inl z) = let w : ⊥ = omega arith in w
+          by (inr z) = let w : ⊥ = omega arith in w
+
+      short : n ≤ 8 → (LongEnough n before work₀ → ⊥) → ⊥
+      short small f = other (omega arith) (omega arith) (eight-comes-next small f)
+
+      pick : Dec (8 < n) → Dec (4 ^ n ≤ leastLength before) → Dec (8 * 4 ^ n ≤ length work₀) → (n ≤ 8) × LongEnough n before work₀
+      pick (yes a) b c = absurd (other (omega arith) (omega arith) (one-comes-first a))
+      pick (no a) (yes b) (yes c) = (omega arith, record { room = room-by-least b; for-work = c })
+      pick (no a) (yes b) (no c) = absurd (short (omega arith) (λ l. let w : ⊥ = omega (arith, l .for-work) in w))
+      pick (no a) (no b) c = absurd (short (omega arith) (λ l. let w : ⊥ = omega (arith, l .room .in-codes, l .room .in-levels, l .room .in-colours) in w))
+
+  -- ---- "Give back the block list they came from"
+
+  module _ (ok : r .number ≡ 0) where
+    small-here : n ≤ 8
+    small-here = asked-past-eight (inl ok) .0
+
+    candidate-has : HasGiven n g (candidateOf n g)
+    candidate-has = accepted-has n g (sym (number-of-outlines small-here (asked-past-eight (inl ok) .1)) ∙ ok)
+
+    -- The lists at exit, up to the count, are an accepted list that has what is given, and no other has it.
+    pub result-has-given : ListHasGiven n g (resultOf after r)
+    unfolding blocksBack
+    result-has-given = subst (ListHasGiven n g) (sym (result-is-written (p .writes) ok)) (list-of-image n g small-here (candidateOf n g) candidate-has)
+
+    pub no-other-has-given : (a : BlockList) → ListHasGiven n g a → resultOf after r ≡ a
+    no-other-has-given a h = one-list n g small-here (resultOf after r) a result-has-given h
+
+  -- ---- the lists
+
+  -- Every refusal has count 0 and leaves the three lists.
+  pub refusal-leaves-lists : 0 < r .number → (r .count ≡ 0) × (after ≡ before)
+  refusal-leaves-lists h = refusal-leaves-all (p .writes) h
+
+  -- "those are 0 after acceptance and after 18".
+  pub work-cleared : (r .number ≡ 0) ⊎ (r .number ≡ 18) → (i : ℕ) → i < 8 * 4 ^ n → getD work₁ i 0 ≡ 0
+  unfolding zerosAfter
+  work-cleared said i h =
+      ap (λ l. getD l i 0) (p .in-work ∙ ap (λ l. over l work₀) (zeros said))
+      ∙ over-inside (replicate (8 * 4 ^ n) 0) work₀ i (omega (arith, length-replicate {A = ℕ} (8 * 4 ^ n) 0))
+      ∙ getD-replicate {A = ℕ} (8 * 4 ^ n) i 0 0 h
+    where
+      zeros : (r .number ≡ 0) ⊎ (r .number ≡ 18) → zerosAfter n (restoringNumber n g before work₀) ≡ replicate (8 * 4 ^ n) 0
+      zeros (inl z) = ap (zerosAfter n) (sym answered ∙ z)
+      zeros (inr z) = ap (zerosAfter n) (sym answered ∙ z)
+
+  -- With 1 and 8 the work list is as it was.
+  pub other-refusals-leave-work : (r .number ≡ 1) ⊎ (r .number ≡ 8) → work₁ ≡ work₀
+  unfolding zerosAfter
+  other-refusals-leave-work said = p .in-work ∙ ap (λ l. over l work₀) (none said) ∙ over-none work₀
+    where
+      none : (r .number ≡ 1) ⊎ (r .number ≡ 8) → zerosAfter n (restoringNumber n g before work₀) ≡ []
+      none (inl z) = ap (zerosAfter n) (sym answered ∙ z)
+      none (inr z) = ap (zerosAfter n) (sym answered ∙ z)
+
+  -- Entries beyond are as they were, whatever was answered.
+  pub work-kept : (i : ℕ) → 8 * 4 ^ n ≤ i → getD work₁ i 0 ≡ getD work₀ i 0
+  unfolding zerosAfter
+  work-kept i h = ap (λ l. getD l i 0) (p .in-work) ∙ over-beyond (zerosAfter n (restoringNumber n g before work₀)) work₀ i (omega (arith, at-most (restoringNumber n g before work₀)))
+    where
+      at-most : (k : ℕ) → length (zerosAfter n k) ≤ 8 * 4 ^ n
+      at-most k = pick (eqb k 0 || eqb k 18)
+        where
+          pick : (t : Bool) → length {A = ℕ} (cond t (replicate (8 * 4 ^ n) 0) []) ≤ 8 * 4 ^ n
+          pick true = omega (arith, length-replicate {A = ℕ} (8 * 4 ^ n) 0)
+          pick false = omega arith
