@@ -14,6 +14,9 @@ ghost use Rattle.regions.specs.Promise.{Numbering};
 ghost use Rattle.tracing.specs.Tracing.{lent, Tracing};
 ghost use Rattle.order_check.specs.Promise.{OrderCheck};
 ghost use Rattle.least_order.specs.Promise.{LeastOrdering};
+ghost use Rattle.given_outlines.specs.Given.{outlinesOf};
+ghost use Rattle.restoring.specs.Counts.{givenAs};
+ghost use Rattle.restoring.specs.Promise.{Restoring};
 ghost use Rattle.stretches.specs.Stretch.{Place};
 ghost use Rattle.svg.specs.Svg.{Svg};
 ghost use Rattle.chains.specs.ChainForm.{ChainRead};
@@ -304,6 +307,47 @@ pub extern "C" fn nettlestair_least_order(
     Written {
         number: least.number,
         count: least.count,
+    }
+}
+
+#[no_mangle]
+pub extern "C" fn nettlestair_blocks_from_outlines(
+    n: u32,
+    regions: u32,
+    cycles: u32,
+    corner_count: u32,
+    owners: &[u32],
+    ends: &[u32],
+    corners: &[u32],
+    region_colours: &[u16],
+    codes: &mut [u32],
+    levels: &mut [u8],
+    colours: &mut [u16],
+    work: &mut [u32],
+) -> Written
+    ensures { λ r. ⌜ Restoring n
+        (givenAs regions cycles «corner_count» (outlinesOf (now (owners .entry)) (now (ends .entry)) (now (corners .entry)) (now («region_colours» .entry))))
+        (listOf (now (codes .entry)) (now (levels .entry)) (now (colours .entry))) (now (work .entry))
+        (listOf (now (codes .exit)) (now (levels .exit)) (now (colours .exit))) (now (work .exit))
+        (record { number = r .number; count = r .count }) ⌝ }
+{
+    let restored = restoring::blocks_from_outlines(
+        n,
+        regions,
+        cycles,
+        corner_count,
+        owners,
+        ends,
+        corners,
+        region_colours,
+        codes,
+        levels,
+        colours,
+        work,
+    );
+    Written {
+        number: restored.number,
+        count: restored.count,
     }
 }
 

@@ -9,3 +9,5 @@ pub mod InOrder
 pub mod Starts
 pub mod Checked
 pub mod Needed
+-- The cycles checked one after the other.
+pub mod CycleByCycle

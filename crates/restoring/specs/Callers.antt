@@ -53,8 +53,10 @@ module _ {n : ℕ} {g : Given} {before after : BlockList} {work₀ work₁ : Lis
 
     pub zero-exactly-when-an-accepted-list-has-it : (r .number ≡ 0) ↔ ((a : BlockList) × ListHasGiven n g a)
     zero-exactly-when-an-accepted-list-has-it = (
-      λ z. (listOf (codes (quadtree n (candidateOf n g))) (levels (quadtree n (candidateOf n g))) (colours (quadtree n (candidateOf n g))),
-          list-of-image n g small (candidateOf n g) (accepted-has n g (sym number-of-outlines ∙ z))),
+      λ z. (
+        listOf (codes (quadtree n (candidateOf n g))) (levels (quadtree n (candidateOf n g))) (colours (quadtree n (candidateOf n g))),
+        list-of-image n g small (candidateOf n g) (accepted-has n g (sym number-of-outlines ∙ z)),
+      ),
       λ some. number-of-outlines ∙ has-accepted n g small _ (some .1 .has) .0,
     )
 

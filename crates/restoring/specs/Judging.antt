@@ -25,7 +25,7 @@ use Rattle.given_outlines.specs.Checked.{checked-has, has-checked}
 use Rattle.given_outlines.specs.Needed.{few-regions, few-cycles, few-corners, none-has}
 use Rattle.west_sides.specs.Promise.{Tellable, Told, RegionsTold}
 use Rattle.pixel_numbers.specs.Promise.{Comparable, NumbersCompared}
-use Rattle.restoring.specs.Retracing.{Retraceable, Retraced}
+use Rattle.retracing.specs.Promise.{Retraceable, MapKept, Retraced}
 use Rattle.restoring.specs.Ends.{endsRise, rising-agree, agree-rising}
 
 -- There is no image that has the outlines.
@@ -126,35 +126,34 @@ module _ {n : ℕ} {o : Outlines} {work : List ℕ} (start : Judgeable n o work)
           bounded = λ j h. subst (λ v. v < 2 * markBit) (sym (c .map-kept j h)) (t .mapped .bounded j h);
         };
         unmarked = λ j h. omega (arith, c .map-kept j h, t .below j h, fit .few-regions, pow4-mono (start .small));
-        few-cycles = fit .few-cycles;
-        few-corners = fit .few-corners;
       }
 
       module _ {w₃ : List ℕ} {ok : Bool} (d : Retraced n (cyclesOf o) w₂ w₃ ok) where
         numbered : (numbers n (coloured (o .colourList) (numsOf n w₁)) ≡ numsOf n w₁) × (regions n (coloured (o .colourList) (numsOf n w₁)) ≡ length (o .colourList))
         numbered = c .agree .0 yes-same
 
-        last-same : numsOf n w₃ ≡ numsOf n w₁
-        last-same = d .same-numbers ∙ same-then
+        module _ (k : MapKept n w₂ w₃) where
+          last-same : numsOf n w₃ ≡ numsOf n w₁
+          last-same = k .same-numbers ∙ same-then
 
-        known : (q : ℕ) → q < 4 ^ n → getD (numsOf n w₃) q 0 < length (o .colourList)
-        known q h =
-            let px = coloured (o .colourList) (numsOf n w₁) in
-            omega (arith, ap (λ l. getD l q 0) (last-same ∙ sym (numbered .0)), number-below-regions n px q h, numbered .1)
+          known : (q : ℕ) → q < 4 ^ n → getD (numsOf n w₃) q 0 < length (o .colourList)
+          known q h =
+              let px = coloured (o .colourList) (numsOf n w₁) in
+              omega (arith, ap (λ l. getD l q 0) (last-same ∙ sym (numbered .0)), number-below-regions n px q h, numbered .1)
 
-        below-all : (j : ℕ) → j < 4 ^ n → getD w₃ j 0 % markBit ≤ length (o .colourList)
-        below-all j h =
-            let e : j / 2 ^ n * 2 ^ n + j % 2 ^ n ≡ j = div-add-mod' j (2 ^ n) in
-            let v = entry-of-pixel n w₃ (j % 2 ^ n) (j / 2 ^ n) (d .mapped) (column-in n j) (row-in n j h) in
-            omega (arith, v, ap (λ i. getD w₃ i 0 % markBit) e, known (code n (j % 2 ^ n) (j / 2 ^ n)) (code-below n (j % 2 ^ n) (j / 2 ^ n)))
+          below-all : (j : ℕ) → j < 4 ^ n → getD w₃ j 0 % markBit ≤ length (o .colourList)
+          below-all j h =
+              let e : j / 2 ^ n * 2 ^ n + j % 2 ^ n ≡ j = div-add-mod' j (2 ^ n) in
+              let v = entry-of-pixel n w₃ (j % 2 ^ n) (j / 2 ^ n) (k .mapped) (column-in n j) (row-in n j h) in
+              omega (arith, v, ap (λ i. getD w₃ i 0 % markBit) e, known (code n (j % 2 ^ n) (j / 2 ^ n)) (code-below n (j % 2 ^ n) (j / 2 ^ n)))
 
         pub image-judged : ImageJudged n o work w₃ ok
         image-judged = record {
           long = d .long ∙ c .long ∙ long₁;
           found = λ e. record {
-            mapped = d .mapped;
-            below = below-all;
-            has = subst (λ l. HasOutlines n o (coloured (o .colourList) l)) (sym last-same)
+            mapped = d .kept e .mapped;
+            below = below-all (d .kept e);
+            has = subst (λ l. HasOutlines n o (coloured (o .colourList) l)) (sym (last-same (d .kept e)))
                 (checked-has (start .small) (record {
                   agree = fit .agree;
                   numbered = numbered .0;

@@ -1,6 +1,5 @@
 -- What giving back the block list of given outlines promises.
 pub mod Promise
-pub mod Retracing
 -- The check: the ends, the passes one after the other.
 pub mod Ends
 pub mod Judging

@@ -1,6 +1,5 @@
 // Whether an image has given outlines and region colours: the region of each pixel told by the northward edges, its numbers and its outlines
 // compared.
-use crate::retracing;
 ghost use mathlib.Core.Path.{_≡_};
 ghost use Prim.Native.Nat.{_≤_};
 ghost use lib.ListN.{length};

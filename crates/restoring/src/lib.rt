@@ -10,7 +10,6 @@ ghost use Rattle.restoring.specs.Restored.{Restorable, Restored};
 ghost use Rattle.restoring.specs.Promise.{Restoring};
 
 mod judge;
-mod retracing;
 
 // The smaller of two lengths.
 fn least(a: usize, b: usize) -> usize
