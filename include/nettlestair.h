@@ -1,8 +1,8 @@
 /* The functions of libexports.a. A lent list passes as a pointer, which is not null, and its length in entries; a list that is
    written to overlaps no other list of the call. Each function answers the numbers of documents 01 and 02 for bad input of any
    kind, touches nothing outside the lists that it is lent, and comes to its end. A refusal is its number with every count 0, and
-   leaves all lists as they were, but for labels and work list with 19 and 20; acceptance is number 0. A list that is shorter than
-   its need is 8; a longer one is welcome, and its entries after those that are written stay as they were. */
+   leaves all lists as they were, but for labels and work list with 19 and 20 and the work list with 18; acceptance is number 0. A list
+   that is shorter than its need is 8; a longer one is welcome, and its entries after those that are written stay as they were. */
 #ifndef NETTLESTAIR_H
 #define NETTLESTAIR_H
 
@@ -130,6 +130,19 @@ struct nettlestair_traced nettlestair_trace(uint32_t n, const uint32_t *codes, s
                                             uint32_t *labels, size_t labels_len, uint32_t *work, size_t work_len,
                                             uint32_t *owners, size_t owners_len, uint32_t *ends, size_t ends_len,
                                             uint32_t *corners, size_t corners_len, int32_t *areas, size_t areas_len);
+
+/* The block list that given outlines came from: 0, or 1, 8, 18 where no accepted block list of this n has these counts, owners, ends,
+   corners and region colours. Counts and lists are as nettlestair_trace gives them, without the areas; the region colours have one entry a
+   region. Entries beyond the counts are not looked at; a list that is shorter than its count is 18. Traced, the block list gives the same
+   outlines. Each of the three lists written has room for 4^n entries, the work list for 8 times 4^n; that many of its entries are 0 after
+   0 and after 18. */
+struct nettlestair_written nettlestair_blocks_from_outlines(uint32_t n, uint32_t regions, uint32_t cycles, uint32_t corner_count,
+                                                            const uint32_t *owners, size_t owners_len, const uint32_t *ends,
+                                                            size_t ends_len, const uint32_t *corners, size_t corners_len,
+                                                            const uint16_t *region_colours, size_t region_colours_len,
+                                                            uint32_t *codes, size_t codes_len, uint8_t *levels,
+                                                            size_t levels_len, uint16_t *colours, size_t colours_len,
+                                                            uint32_t *work, size_t work_len);
 
 /* Where the corners of cycle k stand in a corner list, by an end list and a cycle count; {0, 0} where there are none. */
 struct nettlestair_stretch nettlestair_cycle(const uint32_t *corners, size_t corners_len, const uint32_t *ends,

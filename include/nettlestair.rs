@@ -2,8 +2,9 @@
 //! module and link `target/staticlib/libexports.a` (`rt staticlib exports`); `examples/trace.rs` shows how.
 //!
 //! Each function answers the numbers of documents 01 and 02 for bad input of any kind; acceptance is number 0. A refusal is its
-//! number with every count 0, and leaves all lists as they were, but for labels and work list with 19 and 20. A lent list that is
-//! shorter than its need is 8; a longer one is welcome, and its entries after those that are written stay as they were.
+//! number with every count 0, and leaves all lists as they were, but for labels and work list with 19 and 20 and the work list with
+//! 18. A lent list that is shorter than its need is 8; a longer one is welcome, and its entries after those that are written stay as
+//! they were.
 
 #![allow(dead_code)]
 
@@ -219,6 +220,29 @@ extern "C" {
         areas: *mut i32,
         areas_len: usize,
     ) -> Traced;
+
+    fn nettlestair_blocks_from_outlines(
+        n: u32,
+        regions: u32,
+        cycles: u32,
+        corner_count: u32,
+        owners: *const u32,
+        owners_len: usize,
+        ends: *const u32,
+        ends_len: usize,
+        corners: *const u32,
+        corners_len: usize,
+        region_colours: *const u16,
+        region_colours_len: usize,
+        codes: *mut u32,
+        codes_len: usize,
+        levels: *mut u8,
+        levels_len: usize,
+        colours: *mut u16,
+        colours_len: usize,
+        work: *mut u32,
+        work_len: usize,
+    ) -> Written;
 
     fn nettlestair_cycle(
         corners: *const u32,
@@ -520,6 +544,52 @@ pub fn trace(
             corners.len(),
             areas.as_mut_ptr(),
             areas.len(),
+        )
+    }
+}
+
+/// The block list that given outlines came from: 0, or 1, 8, 18 where no accepted block list of this n has these counts, owners, ends,
+/// corners and region colours. Counts and lists are as `trace` gives them, without the areas; the region colours have one entry a region.
+/// Entries beyond the counts are not looked at; a list that is shorter than its count is 18. Traced, the block list gives the same
+/// outlines. Each of the three lists written has room for 4^n entries, the work list for 8 times 4^n; that many of its entries are 0
+/// after 0 and after 18.
+#[allow(clippy::too_many_arguments)]
+pub fn blocks_from_outlines(
+    n: u32,
+    regions: u32,
+    cycles: u32,
+    corner_count: u32,
+    owners: &[u32],
+    ends: &[u32],
+    corners: &[u32],
+    region_colours: &[u16],
+    codes: &mut [u32],
+    levels: &mut [u8],
+    colours: &mut [u16],
+    work: &mut [u32],
+) -> Written {
+    unsafe {
+        nettlestair_blocks_from_outlines(
+            n,
+            regions,
+            cycles,
+            corner_count,
+            owners.as_ptr(),
+            owners.len(),
+            ends.as_ptr(),
+            ends.len(),
+            corners.as_ptr(),
+            corners.len(),
+            region_colours.as_ptr(),
+            region_colours.len(),
+            codes.as_mut_ptr(),
+            codes.len(),
+            levels.as_mut_ptr(),
+            levels.len(),
+            colours.as_mut_ptr(),
+            colours.len(),
+            work.as_mut_ptr(),
+            work.len(),
         )
     }
 }

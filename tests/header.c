@@ -241,6 +241,49 @@ int main(void) {
     expect("outlines with a hole, rest of the lists", LEFT(lent.labels, 16) && LEFT(lent.work, 32) && LEFT(lent.owners, 3) &&
                                                           LEFT(lent.ends, 3) && LEFT(lent.corners, 12) && LEFT(lent.areas, 3));
 
+    /* the dial of figure 5(b) from its outlines, with entries beyond the counts, in lists that are longer than needed */
+    const uint32_t given_owners[4] = {0, 1, 2, 7}, given_ends[4] = {10, 14, 18, 3};
+    const uint16_t region_colours[4] = {1, 257, 65535, 1}, alike[3] = {1, 1, 65535};
+    const uint32_t all_zeros[128] = {0};
+    struct {
+        uint32_t codes[17];
+        uint8_t levels[17];
+        uint16_t colours[17];
+        uint32_t work[129];
+    } from_outlines, before_outlines;
+    memset(&from_outlines, 99, sizeof from_outlines);
+    before_outlines = from_outlines;
+    w = nettlestair_blocks_from_outlines(2, 3, 3, 18, given_owners, 4, given_ends, 4, points, 18, region_colours, 4, from_outlines.codes,
+                                         17, from_outlines.levels, 16, from_outlines.colours, 17, from_outlines.work, 129);
+    expect("blocks from outlines, answer", w.number == 0 && w.count == 7);
+    expect("blocks from outlines, codes", !memcmp(from_outlines.codes, codes, sizeof codes) && LEFT(from_outlines.codes, 7));
+    expect("blocks from outlines, levels", !memcmp(from_outlines.levels, levels, sizeof levels) && LEFT(from_outlines.levels, 7));
+    expect("blocks from outlines, colours", !memcmp(from_outlines.colours, colours, sizeof colours) && LEFT(from_outlines.colours, 7));
+    expect("blocks from outlines, work", !memcmp(from_outlines.work, all_zeros, sizeof all_zeros) && LEFT(from_outlines.work, 128));
+
+    /* refusals: two neighbours of one colour, a list shorter than its count, of which the work list alone is altered; before them a list
+       too short, and before that n, which alter nothing */
+    from_outlines = before_outlines;
+    w = nettlestair_blocks_from_outlines(2, 3, 3, 18, given_owners, 3, given_ends, 3, points, 18, alike, 3, from_outlines.codes, 16,
+                                         from_outlines.levels, 16, from_outlines.colours, 16, from_outlines.work, 127);
+    expect("blocks from outlines, work too short", w.number == 8 && w.count == 0);
+    w = nettlestair_blocks_from_outlines(2, 3, 3, 18, given_owners, 3, given_ends, 3, points, 18, region_colours, 3, from_outlines.codes, 16,
+                                         from_outlines.levels, 15, from_outlines.colours, 16, from_outlines.work, 128);
+    expect("blocks from outlines, levels too short", w.number == 8 && w.count == 0);
+    w = nettlestair_blocks_from_outlines(9, 3, 3, 18, given_owners, 3, given_ends, 3, points, 18, region_colours, 3, from_outlines.codes, 16,
+                                         from_outlines.levels, 15, from_outlines.colours, 16, from_outlines.work, 128);
+    expect("blocks from outlines, n above 8", w.number == 1 && w.count == 0);
+    expect("blocks from outlines, refusals", !memcmp(&from_outlines, &before_outlines, sizeof from_outlines));
+    w = nettlestair_blocks_from_outlines(2, 3, 3, 18, given_owners, 3, given_ends, 3, points, 18, alike, 3, from_outlines.codes, 16,
+                                         from_outlines.levels, 16, from_outlines.colours, 16, from_outlines.work, 129);
+    expect("blocks from outlines, neighbours of one colour", w.number == 18 && w.count == 0);
+    expect("blocks from outlines, work after 18", !memcmp(from_outlines.work, all_zeros, sizeof all_zeros) && LEFT(from_outlines.work, 128));
+    w = nettlestair_blocks_from_outlines(2, 3, 3, 18, given_owners, 3, given_ends, 3, points, 17, region_colours, 3, from_outlines.codes, 16,
+                                         from_outlines.levels, 16, from_outlines.colours, 16, from_outlines.work, 128);
+    expect("blocks from outlines, fewer corners than counted", w.number == 18 && w.count == 0);
+    expect("blocks from outlines, lists after 18",
+           LEFT(from_outlines.codes, 0) && LEFT(from_outlines.levels, 0) && LEFT(from_outlines.colours, 0));
+
     /* dial 1 */
     const uint32_t square[4] = {0, 1, 513, 512};
     uint8_t text[25];

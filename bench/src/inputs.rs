@@ -2,19 +2,26 @@
 
 use crate::nettlestair::Written;
 use crate::pictures::{Kind, NEW_COLOUR};
-use crate::sides::{Blocks, Lists, Side, Speck, Way, LIBRARY, PLAIN};
+use crate::sides::{Blocks, Given, Lists, Side, Speck, Way, LIBRARY, PLAIN};
 use crate::timing::{compare, Times};
 use std::cell::RefCell;
 use std::hint::black_box;
 
-/// A raster with its block list and the least order of its regions.
+/// A raster with its block list, the least order of its regions and its outlines.
 struct Input {
     raster: Vec<u16>,
     codes: Vec<u32>,
     levels: Vec<u8>,
     colours: Vec<u16>,
     order: Vec<u32>,
+    owners: Vec<u32>,
+    ends: Vec<u32>,
+    corners: Vec<u32>,
+    region_colours: Vec<u16>,
 }
+
+/// The answer of a function that writes a block list and uses a work list, with the lists.
+type Restored = (Written, Vec<u32>, Vec<u8>, Vec<u16>, Vec<u32>);
 
 impl Input {
     fn new(kind: &Kind, n: u32, seed: u64) -> Input {
@@ -26,10 +33,59 @@ impl Input {
         codes.truncate(written.count as usize);
         levels.truncate(written.count as usize);
         colours.truncate(written.count as usize);
-        let mut input = Input { raster, codes, levels, colours, order: vec![] };
+        let (order, owners, ends, corners) = (vec![], vec![], vec![], vec![]);
+        let region_colours = vec![];
+        let mut input = Input { raster, codes, levels, colours, order, owners, ends, corners, region_colours };
         let (written, _, order) = input.least_order(n, &PLAIN);
         input.order = order[..written.count as usize].to_vec();
+        input.trace(n);
         input
+    }
+
+    /// Sets the outlines and the colour of each region.
+    fn trace(&mut self, n: u32) {
+        let mut lists = Lists::new(n, self.codes.len());
+        let traced = (PLAIN.trace)(n, self.blocks(), lists.lend());
+        let Lists { labels, owners, ends, corners, .. } = lists;
+        self.owners = owners[..traced.cycles as usize].to_vec();
+        self.ends = ends[..traced.cycles as usize].to_vec();
+        self.corners = corners[..traced.corners as usize].to_vec();
+        self.region_colours = vec![0; traced.regions as usize];
+        for (&label, &colour) in labels.iter().zip(&self.colours) {
+            self.region_colours[label as usize] = colour;
+        }
+    }
+
+    fn given(&self) -> Given<'_> {
+        Given {
+            regions: self.region_colours.len() as u32,
+            cycles: self.ends.len() as u32,
+            corner_count: self.corners.len() as u32,
+            owners: &self.owners,
+            ends: &self.ends,
+            corners: &self.corners,
+            colours: &self.region_colours,
+        }
+    }
+
+    /// The answer to given outlines on fresh lists, and every entry of the lists.
+    fn blocks_from_outlines(&self, n: u32, side: &Side, given: Given) -> Restored {
+        let whole = self.raster.len();
+        let (mut codes, mut levels, mut colours) = (vec![9; whole], vec![9; whole], vec![9; whole]);
+        let mut work = vec![9; 8 * whole + 1];
+        let written = (side.blocks_from_outlines)(n, given, &mut codes, &mut levels, &mut colours, &mut work);
+        (written, codes, levels, colours, work)
+    }
+
+    /// The answers to the outlines, to the same with another last corner, to one cycle less and to regions of one colour.
+    fn restoring(&self, n: u32, side: &Side) -> [Restored; 4] {
+        let right = self.given();
+        let mut corners = self.corners.clone();
+        corners[self.corners.len() - 1] ^= 1;
+        let colours = vec![7; self.region_colours.len()];
+        let fewer = Given { cycles: right.cycles - 1, ..right };
+        [right, Given { corners: &corners, ..right }, fewer, Given { colours: &colours, ..right }]
+            .map(|given| self.blocks_from_outlines(n, side, given))
     }
 
     fn blocks(&self) -> Blocks<'_> {
@@ -107,6 +163,11 @@ impl Inputs {
         self.inputs.iter().all(|input| input.outlines(self.n, &LIBRARY) == input.outlines(self.n, &PLAIN))
     }
 
+    /// The corners of the first picture.
+    pub fn corners(&self) -> usize {
+        self.inputs[0].corners.len()
+    }
+
     /// The regions of the first picture.
     pub fn regions(&self) -> usize {
         self.inputs[0].order.len()
@@ -114,6 +175,16 @@ impl Inputs {
 
     pub fn equal_cutting(&self) -> bool {
         self.inputs.iter().all(|input| input.cutting(self.n, &LIBRARY) == input.cutting(self.n, &PLAIN))
+    }
+
+    /// The answers to the outlines of each picture are equal on both sides, and the first of them is its block list.
+    pub fn equal_restoring(&self) -> bool {
+        self.inputs.iter().all(|input| {
+            let [library, plain] = [&LIBRARY, &PLAIN].map(|side| input.restoring(self.n, side));
+            let (written, codes, ..) = &library[0];
+            let given_back = written.number == 0 && codes[..written.count as usize] == input.codes;
+            given_back && library[1..].iter().any(|(written, ..)| written.number == 18) && library == plain
+        })
     }
 
     pub fn equal_rasters(&self) -> bool {
@@ -169,6 +240,16 @@ impl Inputs {
         self.time(|side, input| {
             let Lists { labels, work, .. } = &mut lists;
             black_box((side.check_order)(self.n, input.blocks(), &input.order, labels, work));
+        })
+    }
+
+    pub fn time_restore(&self) -> Times {
+        let whole = 1 << (2 * self.n);
+        let (mut codes, mut levels, mut colours) = (vec![0; whole], vec![0; whole], vec![0; whole]);
+        let mut work = vec![0; 8 * whole];
+        self.time(|side, input| {
+            let given = input.given();
+            black_box((side.blocks_from_outlines)(self.n, given, &mut codes, &mut levels, &mut colours, &mut work));
         })
     }
 

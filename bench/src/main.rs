@@ -1,5 +1,7 @@
 //! Times the proved library against a plain Rust implementation of the same job, on the same pictures in one run.
 
+#[path = "../../tests/src/clock.rs"]
+mod clock;
 #[path = "../../samples/dial.rs"]
 mod dial;
 mod inputs;
@@ -26,6 +28,7 @@ Times the proved library (target/staticlib/libexports.a) against a plain Rust im
   orders     to_block_order and from_block_order at n = 6 and n = 8
   overlay    one picture laid over another at n = 8
   touch-up   single pixels of a picture touched up at n = 8
+  restoring  blocks_from_outlines at n = 8
   cutting    least_order and check_order at n = 8, and how the time of least_order grows from n = 4 to n = 8
   codes      a code for each pixel of 256 by 256
   all        all of these (without MODE)
@@ -41,6 +44,7 @@ fn main() -> ExitCode {
         "orders" => &[report::orders],
         "overlay" => &[report::overlay],
         "touch-up" => &[report::touch_up],
+        "restoring" => &[report::restoring],
         "cutting" => &[report::cutting],
         "codes" => &[report::codes],
         "all" => &[
@@ -49,6 +53,7 @@ fn main() -> ExitCode {
             report::orders,
             report::overlay,
             report::touch_up,
+            report::restoring,
             report::cutting,
             report::codes,
         ],

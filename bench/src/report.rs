@@ -221,6 +221,29 @@ pub fn touch_up() -> bool {
     equal
 }
 
+/// Pictures from their outlines at n = 8. Says whether all answers were equal.
+pub fn restoring() -> bool {
+    let mut equal = true;
+    println!("\nn = 8, microseconds for the block list from the outlines of a picture");
+    println!("(both sides clear 8 entries a pixel of the work list at the end of each call)");
+    println!("{:<28} {:>7} | {:^28} |", "", "", "blocks_from_outlines");
+    println!("{:<21}{:>7} {:>7} | {HEADING} | answers", "", "blocks", "corners");
+    for kind in &KINDS {
+        let same = SIZES.map(|n| Inputs::new(kind, n)).all(|inputs| inputs.equal_restoring());
+        let largest = Inputs::new(kind, *SIZES.end());
+        println!(
+            "{:<21}{:>7} {:>7} | {} | {}",
+            kind.name,
+            largest.blocks(),
+            largest.corners(),
+            columns(largest.time_restore()),
+            if same { "equal" } else { "DIFFERENT" }
+        );
+        equal &= same;
+    }
+    equal
+}
+
 /// Orders for cutting from the inside out at n = 8, then how the time of the least order grows. Says whether all answers were equal.
 pub fn cutting() -> bool {
     let mut equal = true;

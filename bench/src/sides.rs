@@ -27,6 +27,18 @@ pub struct Speck {
     pub colour: u16,
 }
 
+/// Given outlines: the counts of regions, cycles and corners, the lists of a tracing, and the colour of each region.
+#[derive(Clone, Copy)]
+pub struct Given<'a> {
+    pub regions: u32,
+    pub cycles: u32,
+    pub corner_count: u32,
+    pub owners: &'a [u32],
+    pub ends: &'a [u32],
+    pub corners: &'a [u32],
+    pub colours: &'a [u16],
+}
+
 /// What a tracing is lent besides the block list.
 pub struct Lent<'a> {
     pub labels: &'a mut [u32],
@@ -49,6 +61,7 @@ pub struct Side {
     pub check_order: fn(u32, Blocks, &[u32], &mut [u32], &mut [u32]) -> u32,
     pub least_order: fn(u32, Blocks, &mut [u32], &mut [u32], &mut [u32]) -> Written,
     pub trace: fn(u32, Blocks, Lent) -> Traced,
+    pub blocks_from_outlines: fn(u32, Given, &mut [u32], &mut [u8], &mut [u16], &mut [u32]) -> Written,
     pub blocks_from_raster: fn(u32, &[u16], &mut [u32], &mut [u8], &mut [u16]) -> Written,
     pub raster_from_blocks: fn(u32, Blocks, &mut [u16]) -> Written,
     pub to_block_order: Way,
@@ -73,6 +86,23 @@ pub const LIBRARY: Side = Side {
         let Lent { labels, work, owners, ends, corners, areas } = lent;
         nettlestair::trace(n, codes, levels, colours, labels, work, owners, ends, corners, areas)
     },
+    blocks_from_outlines: |n, given, codes, levels, colours, work| {
+        let Given { regions, cycles, corner_count, owners, ends, corners, colours: region_colours } = given;
+        nettlestair::blocks_from_outlines(
+            n,
+            regions,
+            cycles,
+            corner_count,
+            owners,
+            ends,
+            corners,
+            region_colours,
+            codes,
+            levels,
+            colours,
+            work,
+        )
+    },
     blocks_from_raster: nettlestair::blocks_from_raster,
     raster_from_blocks: |n, blocks, raster| {
         nettlestair::raster_from_blocks(n, blocks.codes, blocks.levels, blocks.colours, raster)
@@ -96,6 +126,7 @@ pub const PLAIN: Side = Side {
     check_order: plain::check_order,
     least_order: plain::least_order,
     trace: plain::trace,
+    blocks_from_outlines: plain::blocks_from_outlines,
     blocks_from_raster: plain::blocks_from_raster,
     raster_from_blocks: plain::raster_from_blocks,
     to_block_order: plain::to_block_order,

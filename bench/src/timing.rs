@@ -1,6 +1,8 @@
 //! Processor times of two jobs taken by turns: other work on the machine is not counted, and what it does to the caches meets
 //! both alike.
 
+use crate::clock::processor_time;
+
 /// Seconds that one call takes: medians over the samples.
 #[derive(Clone, Copy)]
 pub struct Times {
@@ -57,23 +59,6 @@ fn time(calls: u32, job: &mut impl FnMut()) -> f64 {
         job();
     }
     (processor_time() - began) / f64::from(calls)
-}
-
-/// Seconds that this thread has run so far, from the C library's clock_gettime on Linux.
-fn processor_time() -> f64 {
-    #[repr(C)]
-    struct Timespec {
-        seconds: i64,
-        nanoseconds: i64,
-    }
-    extern "C" {
-        fn clock_gettime(clock: i32, time: *mut Timespec) -> i32;
-    }
-    const THREAD_CPUTIME: i32 = 3;
-    let mut time = Timespec { seconds: 0, nanoseconds: 0 };
-    let status = unsafe { clock_gettime(THREAD_CPUTIME, &mut time) };
-    assert_eq!(status, 0, "there is a clock of the thread's processor time");
-    time.seconds as f64 + 1e-9 * time.nanoseconds as f64
 }
 
 fn median(mut times: Vec<f64>) -> f64 {

@@ -5,6 +5,7 @@ use crate::lent::{Entry, Lent};
 use crate::model::blocks::Blocks;
 use crate::model::orders::{in_block_order, in_rows};
 use crate::model::pgm::Read;
+use crate::model::restoring::{restoring_needs, Given};
 use crate::model::touching_up::Speck;
 use crate::nettlestair::{self, Numbered, Picture, Traced, Written};
 use crate::random::Random;
@@ -105,6 +106,53 @@ pub fn touch_up(random: &mut Random, n: u32, blocks: &Blocks, speck: Speck, leng
             nettlestair::touch_up(n, codes, levels, colours, x, y, colour, new_codes, new_levels, new_colours)
         })
     })
+}
+
+/// The dial from its outlines, after a call: the block list, and the work list.
+pub struct RestoredOut {
+    n: u32,
+    pub blocks: BlocksOut,
+    pub work: Lent<u32>,
+}
+
+impl RestoredOut {
+    /// What differs from what the model answers: blocks, or the number of a refusal. The entries that the work list needs "are 0 after
+    /// acceptance and after 18".
+    pub fn difference_from_model(&self, expected: &Result<Blocks, u32>) -> Option<String> {
+        let [.., work] = restoring_needs(self.n);
+        let zeros = vec![0; if matches!(expected, Ok(_) | Err(18)) { work } else { 0 }];
+        let in_work = || self.work.difference(&zeros).map(|d| format!("work, {d}"));
+        self.blocks.difference_from_model(expected).or_else(in_work)
+    }
+}
+
+/// The dial from its outlines, with code, level, colour and work lists of the given lengths.
+pub fn blocks_from_outlines(random: &mut Random, n: u32, given: &Given, lengths: [usize; 4]) -> RestoredOut {
+    let [codes, levels, colours, work] = lengths;
+    let mut work = Lent::new(random, work);
+    let before = given.clone();
+    let blocks = BlocksOut::of(random, [codes, levels, colours], |codes, levels, colours| {
+        let Given { regions, cycles, corner_count, owners, ends, corners, colours: region_colours } = black_box(given);
+        nettlestair::blocks_from_outlines(
+            n,
+            *regions,
+            *cycles,
+            *corner_count,
+            owners,
+            ends,
+            corners,
+            region_colours,
+            codes,
+            levels,
+            colours,
+            work.lend(),
+        )
+    });
+    unchanged("owners", &before.owners, black_box(&given.owners));
+    unchanged("ends", &before.ends, black_box(&given.ends));
+    unchanged("corners", &before.corners, black_box(&given.corners));
+    unchanged("region colours", &before.colours, black_box(&given.colours));
+    RestoredOut { n, blocks, work }
 }
 
 /// A function that writes one list, after a call.

@@ -2,6 +2,7 @@
 
 use crate::lent::Entry;
 use crate::model::blocks::Blocks;
+use crate::model::restoring::Given;
 use crate::random::Random;
 
 /// One change of a block list.
@@ -94,5 +95,67 @@ pub fn in_corners(random: &mut Random, corners: &mut Vec<u32>) {
         3 if at < corners.len() => drop(corners.remove(at)),
         4 => corners.rotate_left(at),
         _ => corners.insert(at, near),
+    }
+}
+
+/// One change of given outlines: a count, an entry, a list cut off, two regions of one colour, or a change of whole cycles. Another colour is
+/// no fault by itself.
+pub fn in_outlines(random: &mut Random, given: &mut Given) {
+    let place = |random: &mut Random, length: usize| random.below(length.max(1));
+    match random.below(10) {
+        0 => {
+            let count =
+                [&mut given.regions, &mut given.cycles, &mut given.corner_count].into_iter().nth(random.below(3));
+            let count = count.expect("there are three counts");
+            *count = [count.wrapping_add(1), count.wrapping_sub(1), 0, random.word()][random.below(4)];
+        }
+        1 => {
+            let likely = [0, 1, given.regions, given.regions.wrapping_sub(1)];
+            in_list(random, &mut given.owners, &likely);
+        }
+        2 => {
+            let at = place(random, given.ends.len());
+            let likely = [0, given.corner_count, given.ends.get(at).map_or(4, |end| end.wrapping_add(2))];
+            in_list(random, &mut given.ends, &likely);
+        }
+        3 => in_corners(random, &mut given.corners),
+        4 => {
+            let likely = [0, given.colours.first().copied().unwrap_or(1)];
+            in_list(random, &mut given.colours, &likely);
+        }
+        5 => {
+            let [a, b] = [(); 2].map(|()| place(random, given.colours.len()));
+            if a.max(b) < given.colours.len() {
+                given.colours[b] = [given.colours[a], given.colours[b] ^ 1 << random.below(16)][random.below(2)];
+            }
+        }
+        _ => {
+            let (counted, colours) = (given.counted(), given.colours.clone());
+            if let Some(mut cycles) = counted.and_then(|given| given.listed()).filter(|cycles| !cycles.is_empty()) {
+                in_cycles(random, &mut cycles);
+                *given = Given { regions: given.regions, ..Given::of_cycles(&cycles, &colours) };
+            }
+        }
+    }
+}
+
+/// One change of a list of cycles, which has some: one of them left out, listed twice, turned round or from another start, or two exchanged
+/// in whole or in part.
+fn in_cycles(random: &mut Random, cycles: &mut Vec<(u32, Vec<u32>)>) {
+    let [a, b] = [(); 2].map(|()| random.below(cycles.len()));
+    match random.below(7) {
+        0 => drop(cycles.remove(a)),
+        1 => cycles.insert(b, cycles[a].clone()),
+        2 => cycles[a].1.reverse(),
+        3 => {
+            let length = cycles[a].1.len();
+            cycles[a].1.rotate_left(random.below(length + 1));
+        }
+        4 => cycles.swap(a, b),
+        5 => (cycles[a].0, cycles[b].0) = (cycles[b].0, cycles[a].0),
+        _ => {
+            let corners = cycles[a].1.clone();
+            cycles[b].1.extend(corners);
+        }
     }
 }

@@ -1,11 +1,12 @@
 //! Tests of the proved library from Rust.
 //!
 //! `nettlestair` calls the library through its C names, `model` is a second implementation of document 01 that shares nothing
-//! with the proved one, and the rest is what the tests in `tests/` use: comparing, lending, random numbers, counting cases.
+//! with the proved one, and the rest is what the tests in `tests/` use: comparing, lending, random numbers, counting cases, the clock.
 
 pub mod browser;
 pub mod calls;
 pub mod cases;
+pub mod clock;
 pub mod compare;
 pub mod damage;
 pub mod expected;

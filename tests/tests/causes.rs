@@ -1,16 +1,18 @@
-//! Causes 1 to 8 of block lists, 19 and 20 of an order, and 21 of a pixel: each alone, each pair that can occur together, and their order,
-//! in one list and in two.
+//! Causes 1 to 8 of block lists, 18 of outlines, 19 and 20 of an order, and 21 of a pixel: each alone, each pair that can occur together,
+//! and their order, in one list and in two.
 
 use std::collections::BTreeSet;
 use tests::calls::{
-    agrees, check_order, least_order, number as numbering, overlay, raster_from_blocks, touch_up, trace, BlocksOut,
+    agrees, blocks_from_outlines, check_order, least_order, number as numbering, overlay, raster_from_blocks, touch_up,
+    trace, BlocksOut,
 };
 use tests::cases::Cases;
 use tests::expected::{needs, order_needs, Model};
 use tests::faults;
-use tests::figures::FIGURE_5A;
+use tests::figures::{FIGURE_5A, FIGURE_5B};
 use tests::model::blocks::{conditions, number, paint, quadtree, Blocks};
 use tests::model::overlay::overlay as overlaid;
+use tests::model::restoring::{restored, Given};
 use tests::model::touching_up::{touch_up as touched_up, Speck};
 use tests::nettlestair::check;
 use tests::random::Random;
@@ -481,6 +483,68 @@ fn pixels_outside() {
             }
         }
     }
+    cases.end();
+}
+
+/// Outlines of figure 5(b), with garbage beyond the counts or without, and others that no image of its side has, each with 0 or 18.
+fn outlines() -> Vec<(Given, u32)> {
+    let right = Given::of(2, &FIGURE_5B);
+    let with = |change: fn(&mut Given)| {
+        let mut given = right.clone();
+        change(&mut given);
+        given
+    };
+    let longer = with(|given| {
+        given.owners.push(7);
+        given.ends.push(u32::MAX);
+        given.corners.extend([0; 300]);
+        given.colours.push(1);
+    });
+    let wrong: [fn(&mut Given); 12] = [
+        |given| given.regions += 1,
+        |given| given.cycles -= 1,
+        |given| given.corner_count = u32::MAX,
+        |given| given.owners[2] = 0,
+        |given| given.ends[0] = 12,
+        |given| given.corners[17] += 1,
+        |given| given.colours[1] = given.colours[0],
+        |given| given.owners.clear(),
+        |given| given.ends.truncate(2),
+        |given| given.corners.truncate(17),
+        |given| given.colours.clear(),
+        |given| *given = Given::default(),
+    ];
+    let wrong = wrong.map(|change| (with(change), 18));
+    [(right.clone(), 0), (longer, 0)].into_iter().chain(wrong).collect()
+}
+
+/// The dial from its outlines: 1 before 8, which one list that is too short suffices for, and that before 18. For n = 9 too there are lists
+/// that are long enough, so that 1 is alone.
+#[test]
+fn causes_of_outlines() {
+    let mut cases = Cases::of("causes of outlines");
+    let mut random = Random::of("causes of outlines");
+    let mut seen = BTreeSet::new();
+    for (n, a) in [(2, 0), (9, 1), (10, 1), (256, 1), (258, 1), (1 << 31 | 2, 1), (u32::MAX, 1)] {
+        let whole = if n == 9 { 1 << 18 } else { 16 };
+        let need = [whole, whole, whole, 8 * whole];
+        let short = [[1, 0, 0, 0], [0, 1, 0, 0], [0, 0, 1, 0], [0, 0, 0, 1], [1; 4], need].map(|short| (short, 8));
+        for (given, c) in outlines() {
+            for (short, b) in [([0; 4], 0)].into_iter().chain(short) {
+                let lengths = [0, 1, 2, 3].map(|list| need[list] - short[list]);
+                let number = [a, b, c].into_iter().find(|&number| number != 0);
+                let expected = restored(n, &given, lengths);
+                assert_eq!(expected.as_ref().err().copied(), number, "the model: n = {n}, {given}, {lengths:?}");
+                let out = blocks_from_outlines(&mut random, n, &given, lengths);
+                let difference = out.difference_from_model(&expected);
+                agrees(format_args!("n = {n}, {given}, lists of {lengths:?}"), difference);
+                seen.insert((a, b, c));
+                cases.ran();
+            }
+        }
+    }
+    let numbers = [0, 1].into_iter().flat_map(|a| [0, 8].map(|b| (a, b)));
+    assert_eq!(seen, numbers.flat_map(|(a, b)| [(a, b, 0), (a, b, 18)]).collect());
     cases.end();
 }
 

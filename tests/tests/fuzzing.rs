@@ -14,19 +14,21 @@ use tests::model::orders::{raster_number, rearranged};
 use tests::model::overlay::overlay as overlaid;
 use tests::model::paths;
 use tests::model::pgm::read_into;
+use tests::model::restoring::{restored, restoring_needs};
 use tests::model::touching_up::{touch_up as touched_up, Speck};
 use tests::nettlestair::{self, Stretch};
 use tests::outlines::random_outline;
 use tests::pictures::sample_bytes;
 use tests::random::Random;
 use tests::rasters;
+use tests::traced::outlines;
 
 /// One input of a function: the number that the model gives, and what differs in the library's answer. Where `wrong` is 1
 /// instead of 0, the answer is changed before it is compared, so that something differs.
 type Try = fn(random: &mut Random, wrong: u32) -> (u32, Option<String>);
 
 /// Each function with the numbers that it can answer; a location code and the stretch of a cycle have none.
-const FUNCTIONS: [(&str, Try, &[u32]); 16] = [
+const FUNCTIONS: [(&str, Try, &[u32]); 17] = [
     ("fuzzing, codes", code, &[0]),
     ("fuzzing, check", check, &[0, 1, 2, 3, 4, 5, 6, 7]),
     ("fuzzing, raster to blocks", blocks_from_raster, &[0, 1, 8, 9]),
@@ -39,6 +41,7 @@ const FUNCTIONS: [(&str, Try, &[u32]); 16] = [
     ("fuzzing, orders judged", check_order, &[0, 1, 2, 3, 4, 5, 6, 7, 8, 19, 20]),
     ("fuzzing, least orders", least_order, &[0, 1, 2, 3, 4, 5, 6, 7, 8]),
     ("fuzzing, outlines", tracing, &[0, 1, 2, 3, 4, 5, 6, 7, 8]),
+    ("fuzzing, images from outlines", blocks_from_outlines, &[0, 1, 8, 18]),
     ("fuzzing, stretches", cycle, &[0]),
     ("fuzzing, path data", svg, &[0, 8, 16]),
     ("fuzzing, chains read", read_chain, &[0, 8, 17]),
@@ -338,6 +341,33 @@ fn tracing(random: &mut Random, wrong: u32) -> (u32, Option<String>) {
     }
     let difference = out.difference(&expected);
     (expected.answer.number, difference.map(|d| format!("n = {n}, {blocks}, lengths {lengths:?}: {d}")))
+}
+
+/// The outlines of an image, faulty or not. Where `wrong` is 1 and the work list is cleared, either the count is changed or one of its entries.
+fn blocks_from_outlines(random: &mut Random, wrong: u32) -> (u32, Option<String>) {
+    let n = side(random);
+    let raster = match random.below(2) {
+        0 => rasters::any(random, drawn(n)),
+        _ => rasters::frames(random, drawn(n)),
+    };
+    let mut given = outlines(random, drawn(n), &quadtree(drawn(n), &raster));
+    if random.below(2) == 0 {
+        given = given.counted().expect("a tracing has what it counts");
+    }
+    for _ in 0..faulty(random) {
+        faults::in_outlines(random, &mut given);
+    }
+    let lengths = restoring_needs(n).map(|need| length(random, need));
+    let expected = restored(n, &given, lengths);
+    let mut out = calls::blocks_from_outlines(random, n, &given, lengths);
+    if wrong == 1 && matches!(expected, Ok(_) | Err(18)) && random.below(2) == 0 {
+        let place = GUARD + random.below(lengths[3]);
+        out.work.damage(random, place);
+    } else {
+        out.blocks.written.count += wrong;
+    }
+    let difference = out.difference_from_model(&expected);
+    (expected.err().unwrap_or(0), difference.map(|d| format!("n = {n}, {given}, lengths {lengths:?}: {d}")))
 }
 
 fn cycle(random: &mut Random, wrong: u32) -> (u32, Option<String>) {

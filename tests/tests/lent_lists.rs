@@ -1,7 +1,8 @@
 //! What becomes of lent lists: tails stay, lists one too short are refused, a refusal leaves everything.
 
 use tests::calls::{
-    agrees, blocks_from_raster, overlay, raster_from_blocks, touch_up, BlocksOut, Out, FROM_BLOCK_ORDER, TO_BLOCK_ORDER,
+    agrees, blocks_from_outlines, blocks_from_raster, overlay, raster_from_blocks, touch_up, BlocksOut, Out,
+    FROM_BLOCK_ORDER, TO_BLOCK_ORDER,
 };
 use tests::cases::Cases;
 use tests::damage::each_place;
@@ -12,6 +13,7 @@ use tests::model::touching_up::{repainted, Speck};
 use tests::nettlestair::Written;
 use tests::random::Random;
 use tests::rasters;
+use tests::traced::outlines;
 
 /// A pixel of an image of side 2^n, and the colour that it gets: one of these, or any.
 fn any_speck(random: &mut Random, n: u32, colours: &[u16]) -> Speck {
@@ -19,8 +21,8 @@ fn any_speck(random: &mut Random, n: u32, colours: &[u16]) -> Speck {
     Speck { x, y, colour: [colours[random.below(colours.len())], random.colour()][random.below(2)] }
 }
 
-/// Rasters to blocks, one list over another and one pixel touched up: 8 in each of the three lists alone, in two and in all. The need is
-/// 4^n whatever the answer would use.
+/// Rasters to blocks, one list over another, one pixel touched up and an image from its outlines: 8 in each of the three lists alone, in two
+/// and in all. The need is 4^n whatever the answer would use.
 #[test]
 fn block_lists_too_short() {
     let mut cases = Cases::of("block lists too short");
@@ -29,6 +31,7 @@ fn block_lists_too_short() {
         let rasters = rasters::of_every_kind(&mut random, n);
         for (raster, other) in rasters.iter().zip(rasters.iter().cycle().skip(1)) {
             let (first, second) = (quadtree(n, raster), quadtree(n, other));
+            let given = outlines(&mut random, n, &first);
             let need = raster.len();
             for short in 1..8 {
                 for missing in [1, need] {
@@ -46,6 +49,13 @@ fn block_lists_too_short() {
                         );
                         cases.ran();
                     }
+                    let [codes, levels, colours] = lengths;
+                    let out = blocks_from_outlines(&mut random, n, &given, [codes, levels, colours, 8 * need]);
+                    agrees(
+                        format_args!("n = {n}, {given}, lists {short:03b} short by {missing}"),
+                        out.difference_from_model(&Err(8)),
+                    );
+                    cases.ran();
                 }
             }
         }

@@ -61,13 +61,26 @@ pub fn blocks_from_raster(
     if codes.len() < whole || levels.len() < whole || colours.len() < whole {
         return Written::refused(8);
     }
+    merge(n, raster, |colour| colour, codes, levels, colours)
+}
+
+/// The merged block list of what stands in rows of 2^n, with the colour that each entry has; a square of one colour has equal entries. The
+/// lists have room.
+pub fn merge<T: Copy + PartialEq>(
+    n: u32,
+    cells: &[T],
+    colour: impl Fn(T) -> u16,
+    codes: &mut [u32],
+    levels: &mut [u8],
+    colours: &mut [u16],
+) -> Written {
     let (mut code, mut count) = (0, 0);
-    while (code as usize) < whole {
+    while (code as usize) < cells.len() {
         let at = place(n, code);
-        let level = level_at(n, raster, code, at);
+        let level = level_at(n, cells, code, at);
         codes[count] = code;
         levels[count] = level as u8;
-        colours[count] = raster[at];
+        colours[count] = colour(cells[at]);
         count += 1;
         code += 1 << (2 * level);
     }
@@ -75,12 +88,12 @@ pub fn blocks_from_raster(
 }
 
 /// The level of the block that starts at a code, whose pixel stands at the place `at`.
-fn level_at(n: u32, raster: &[u16], code: u32, at: usize) -> u32 {
+fn level_at<T: Copy + PartialEq>(n: u32, cells: &[T], code: u32, at: usize) -> u32 {
     let top = n.min(code.trailing_zeros() / 2);
     let side = 1 << n;
-    let colour = raster[at];
+    let cell = cells[at];
     let alike =
-        |from: usize, s: usize| raster[from..].chunks(side).take(s).all(|row| row[..s].iter().all(|&c| c == colour));
+        |from: usize, s: usize| cells[from..].chunks(side).take(s).all(|row| row[..s].iter().all(|&c| c == cell));
     (0..top)
         .find(|level| {
             let s = 1 << level;

@@ -10,6 +10,7 @@ pub mod orders;
 pub mod outlines;
 pub mod pgm;
 pub mod regions;
+pub mod restoring;
 
 pub use blocks::{blocks_from_raster, check, overlay, raster_from_blocks, touch_up};
 pub use cutting::{check_order, least_order};
@@ -18,6 +19,7 @@ pub use orders::{from_block_order, to_block_order};
 pub use outlines::trace;
 pub use pgm::read_pgm;
 pub use regions::number;
+pub use restoring::blocks_from_outlines;
 
 use crate::nettlestair::{Numbered, Picture, Traced, Written};
 

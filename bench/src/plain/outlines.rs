@@ -14,7 +14,7 @@ pub const WALKED: u32 = 1 << 31;
 pub const STEP: [u32; 4] = [1, 0u32.wrapping_sub(512), 0u32.wrapping_sub(1), 512];
 
 /// The tail of the edge that goes east, north, west, south around its pixel, less that pixel.
-const TAIL: [u32; 4] = [0, 512, 513, 1];
+pub const TAIL: [u32; 4] = [0, 512, 513, 1];
 
 pub fn trace(n: u32, blocks: Blocks, lent: Lent) -> Traced {
     let fault = check(n, blocks);

@@ -71,14 +71,14 @@ fn each_once(entries: &[u32], mut join: impl FnMut(u32)) {
 }
 
 /// Joins a root and the root of b, the larger below the smaller; returns the smaller.
-fn join_roots(parents: &mut [u32], root: u32, b: u32) -> u32 {
+pub fn join_roots(parents: &mut [u32], root: u32, b: u32) -> u32 {
     let other = find(parents, b);
     let (low, high) = (root.min(other), root.max(other));
     parents[high as usize] = low;
     low
 }
 
-/// The root of a block; paths are halved on the way.
+/// The root of a block or a pixel; paths are halved on the way.
 fn find(parents: &mut [u32], mut k: u32) -> u32 {
     loop {
         let up = parents[k as usize];
@@ -91,8 +91,8 @@ fn find(parents: &mut [u32], mut k: u32) -> u32 {
     }
 }
 
-/// Turns parents into numbers: a root takes the next one, any other block the one its parent has by then.
-fn number_roots(labels: &mut [u32]) -> u32 {
+/// Turns parents into numbers: a root takes the next one, any other block or pixel the one its parent has by then.
+pub fn number_roots(labels: &mut [u32]) -> u32 {
     let mut next = 0;
     for k in 0..labels.len() {
         let parent = labels[k] as usize;

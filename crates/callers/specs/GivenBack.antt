@@ -26,7 +26,8 @@ use Rattle.tracing.specs.declared.Traced.{Traced}
 use Rattle.given_outlines.specs.Given.{Outlines, outlinesOf, Given, upToCounts, HasOutlines, HasGiven, ListHasGiven, coloured, coloured-at, length-coloured}
 use Rattle.restoring.specs.Promise.{Restoring}
 use Rattle.restoring.specs.Counts.{givenAs}
-use Rattle.restoring.specs.Callers.{LongEnough, zero-exactly-when-an-accepted-list-has-it, result-has-given, no-other-has-given}
+use Rattle.restoring.specs.Lengths.{LongEnough}
+use Rattle.restoring.specs.Callers.{zero-exactly-when-an-accepted-list-has-it, result-has-given, no-other-has-given}
 use Rattle.callers.specs.Demand3.{AtExit, needs-of, not-refused, accepted-only, accepted-at-exit}
 use Rattle.callers.specs.Demand3 as demand3
 

@@ -23,10 +23,10 @@ use Rattle.cycle_checks.specs.Says.{Says, says-yes, says-no}
 
 module _ (m : ℕ → ℕ → ℕ) (r p : ℕ) where
   -- It turns right only where the pixel ahead on the right is not in the region,
-  pub in-region : (d : ℕ) → turn m r p d ≢ rightOf d → around m p d ≡ r
+  in-region : (d : ℕ) → turn m r p d ≢ rightOf d → around m p d ≡ r
   in-region d n = elim (ℕ-discrete (around m p d) r) [ yes h ↦ h | no h ↦ absurd (n (go-right m r p d h)) ]
 
-  pub not-in-region : (d : ℕ) → d < 4 → turn m r p d ≡ rightOf d → around m p d ≢ r
+  not-in-region : (d : ℕ) → d < 4 → turn m r p d ≡ rightOf d → around m p d ≢ r
   unfolding rightOf leftOf
   not-in-region d low e h =
       elim (ℕ-discrete (around m p (leftOf d)) r) [
@@ -35,7 +35,7 @@ module _ (m : ℕ → ℕ → ℕ) (r p : ℕ) where
       ]
 
   -- and goes straight on only along a side of the region.
-  pub side-there : (d : ℕ) → d < 4 → turn m r p d ≡ d → Side m r p d
+  side-there : (d : ℕ) → d < 4 → turn m r p d ≡ d → Side m r p d
   unfolding rightOf leftOf
   side-there d low e = pick (ℕ-discrete (around m p d) r) (ℕ-discrete (around m p (leftOf d)) r)
     where
@@ -90,10 +90,9 @@ module _ {side : ℕ} {map : List ℕ} (square : Square side map) (r p : ℕ) wh
   module _ {east : ℕ} (hE : (east ≡ turn (mapAt side map) r p 0) × (east < 4)) where
     pub no-edge : east ≢ 0 → Says false (FirstEdge side r (edge p 0) map)
     no-edge n =
-        says-no (λ first. n (hE .0 ∙ straight-on (subst₂ (Side (mapAt side map) r) (tail-edge p 0 (omega arith)) (digit-edge p 0 (omega arith)) (first .on-region .side))))
-      where
-        straight-on : Side (mapAt side map) r p 0 → turn (mapAt side map) r p 0 ≡ 0
-        straight-on s = go-straight (mapAt side map) r p 0 (s .on-right) (s .on-left)
+        says-no (λ first.
+        let s : Side (mapAt side map) r p 0 = subst₂ (Side (mapAt side map) r) (tail-edge p 0 (omega arith)) (digit-edge p 0 (omega arith)) (first .on-region .side) in
+        n (hE .0 ∙ go-straight (mapAt side map) r p 0 (s .on-right) (s .on-left)))
 
     module _ (pos : 0 < r) (z : east ≡ 0) where
       here : Edge (mapAt side map) r (edge p 0)

@@ -1,8 +1,8 @@
 -- The check of one given cycle: what is asked and promised, and that the tests decide it. A walk may begin at its first corner, and matches.
 use mathlib.Core.Path.{_≡_, refl, sym, ap, ap₂, _∙_, subst, subst₂}
 use mathlib.Core.Bool.{Bool, true, false, not, false≢true}
-use mathlib.Core.List.{List, []}
-use Prim.Native.Nat.{ℕ, zero, suc, _+_, _*_, _/_, _%_, _^_, _≤_, _<_}
+use mathlib.Core.List.{List}
+use Prim.Native.Nat.{ℕ, suc, _+_, _*_, _/_, _%_, _^_, _≤_, _<_}
 use native.Mathlib.Numerals.{add-one}
 use native.Mathlib.Omega.{arith}
 use lib.ListN.{length, getD}
@@ -42,7 +42,7 @@ pub record Checkable (n : ℕ) (table map : List ℕ) : Type 0 where
   pub mapped : Mapped n map
 
 -- The answer says whether the corners `points`, owned by the region `owner`, are a cycle of the map from its start. Where they are, its
--- eastward edges are marked; where not, which entries of the map bear marks is free.
+-- eastward edges are marked; where not, the content of the map is free.
 pub record CycleChecked (n owner : ℕ) (points map map′ : List ℕ) (ok : Bool) : Type 0 where
   pub long : length map′ ≡ length map
   pub answer : Says ok (FromItsStart n (numsOf n map) owner points)
@@ -53,7 +53,7 @@ coordinates : (x y p : ℕ) → x < 512 → p ≡ point x y → (xOf p ≡ x) ×
 coordinates x y p h e = (ap xOf e ∙ x-of-point x y h, ap yOf e ∙ y-of-point x y h)
 
 -- The first corner of the cycle is (x, y).
-pub record FirstCorner (n : ℕ) (points map : List ℕ) (x y : ℕ) : Type 0 where
+record FirstCorner (n : ℕ) (points map : List ℕ) (x y : ℕ) : Type 0 where
   pub small : n ≤ 8
   pub mapped : Mapped n map
   pub narrow : x < 512
@@ -104,8 +104,8 @@ module _ {n x y : ℕ} {points map : List ℕ} (h : FirstCorner n points map x y
     unfolding cycle codeRight
     same-code e i z =
         let r : ℕ = suc (getD (numsOf n map) (code n x y) 0) in
-        let w : Eastward n (numsOf n map) (h .small) r e =
-        eastward n (numsOf n map) (h .small) r e (ring (regionAt n (numsOf n map)) (margin n (numsOf n map) (h .small)) r (northSide n (code n x y)) north .edges e i) z in
+        let g : Edge (regionAt n (numsOf n map)) r e = ring (regionAt n (numsOf n map)) (margin n (numsOf n map) (h .small)) r (northSide n (code n x y)) north .edges e i in
+        let w : Eastward n (numsOf n map) (h .small) r e = eastward n (numsOf n map) (h .small) r e g z in
         code-wider n 8 (xOf (tail e)) (yOf (tail e)) (h .small) (w .x-below) (w .y-below)
 
     starts-here : Matches (2 ^ n) (edge (point x y) 0) map points → StartAt n (numsOf n map) (code n x y)
@@ -184,7 +184,7 @@ module _ {n x y : ℕ} {points map : List ℕ} (h : FirstCorner n points map x y
 -- ---- the tests in the code's order
 
 module _ {n : ℕ} {table map : List ℕ} (ok : Checkable n table map) (points : List ℕ) where
-  pub first-corner : FirstCorner n points map (getD points 0 0 % 512) (getD points 0 0 / 512)
+  first-corner : FirstCorner n points map (getD points 0 0 % 512) (getD points 0 0 / 512)
   unfolding point
   first-corner = record { small = ok .small; mapped = ok .mapped; narrow = omega arith; told = omega arith }
 
@@ -207,7 +207,7 @@ module _ {n : ℕ} {table map : List ℕ} (ok : Checkable n table map) (owner : 
 
   -- With the code's side.
   module _ {side : ℕ} (e : side ≡ sideOf n) where
-    pub side-here : side ≡ 2 ^ n
+    side-here : side ≡ 2 ^ n
     side-here = e ∙ side-is-power n (omega (arith, ok .small))
 
     pub square-here : Square side map
@@ -219,7 +219,7 @@ module _ {n : ℕ} {table map : List ℕ} (ok : Checkable n table map) (owner : 
     abbrev its-edge : ℕ
     its-edge = edge (point (getD points 0 0 % 512) (getD points 0 0 / 512)) 0
 
-    pub no-walk : {begins : Bool} → Says begins (FirstEdge side (owner + 1) (edge (point (getD points 0 0 % 512) (getD points 0 0 / 512)) 0) map) → not begins ≡ true
+    pub no-walk : {begins : Bool} → Says begins (FirstEdge side (owner + 1) its-edge map) → not begins ≡ true
         → CycleChecked n owner points map map false
     no-walk says no-edge =
         refused (λ f. denied says no-edge (subst (λ (s : ℕ). FirstEdge s (owner + 1) its-edge map) (sym side-here) (its-first-edge (first-corner ok points) owner f)))
@@ -228,7 +228,8 @@ module _ {n : ℕ} {table map : List ℕ} (ok : Checkable n table map) (owner : 
         → CycleChecked n owner points map map′ matches
     walked {map′} {matches} first compared =
         let f : FirstEdge (2 ^ n) (owner + 1) its-edge map = subst (λ (s : ℕ). FirstEdge s (owner + 1) its-edge map) side-here first in
-        let c : Compared (2 ^ n) (owner + 1) its-edge map points map′ matches = subst (λ (s : ℕ). Compared s (owner + 1) its-edge map points map′ matches) side-here compared in
+        let c : Compared (2 ^ n) (owner + 1) its-edge map points map′ matches =
+        subst (λ (s : ℕ). Compared s (owner + 1) its-edge map points map′ matches) side-here compared in
         record {
           long = c .long;
           answer = (λ t. from-its-start (first-corner ok points) owner f (c .answer .0 t), λ g. c .answer .1 (its-match (first-corner ok points) owner g));

@@ -4,10 +4,9 @@ use mathlib.Core.Path.{_≡_, refl, sym, ap, ap₂, _∙_, subst}
 use mathlib.Core.Logic.{_≢_, _⊎_, inl, inr}
 use mathlib.Core.Bool.{Bool, true, false, not, false≢true}
 use mathlib.Core.List.{List, [], _∷_, _++_, append-assoc, append-nil}
-use Prim.Native.Nat.{ℕ, suc, _+_, _*_, _%_, _≤_, _<_}
+use Prim.Native.Nat.{ℕ, _+_, _*_, _%_, _≤_, _<_}
 use native.Mathlib.Nat.{le-trans}
 use native.Mathlib.Numerals.{add-one}
-use native.Mathlib.Decide.{ℕ-discrete}
 use native.Mathlib.Omega.{arith}
 use lib.ListN.{length, getD, take, length-append}
 use lib.Seq.{length-take-le, take-suc, take-length, getD-append-seam}
@@ -19,7 +18,7 @@ use Rattle.lattice.specs.Directions.{point, xOf, yOf, edge, tail, digit}
 use Rattle.lattice.specs.Walks.{turns}
 use Rattle.lattice.specs.Corners.{turns-turn}
 use Rattle.lattice.specs.Outlines.{x-of-point, y-of-point, tail-edge, digit-edge}
-use Rattle.orbits.specs.Members.{In, in-first, in-none, in-append, in-left, in-right}
+use Rattle.orbits.specs.Members.{In, in-first, in-none, in-append, in-right}
 use Rattle.grid.specs.Steps.{step}
 use Rattle.grid.specs.Cycles.{cycleFrom, codeRight}
 use Rattle.grid.specs.Undoing.{digit-below-four}
@@ -27,7 +26,7 @@ use Rattle.grid.specs.Closing.{others, cycle-first}
 use Rattle.steps.specs.Look.{mapAt, at-margin}
 use Rattle.cycles.specs.Marks.{marks}
 use Rattle.cycles.specs.Points.{EdgeAt, way-at, at-start, not-at-start}
-use Rattle.cycles.specs.Rounds.{FirstEdge, rest, leftAfter, rest-none, Before, After, set-out, square-here, edge-here, rest-first, onward, all-marked}
+use Rattle.cycles.specs.Rounds.{FirstEdge, rest, leftAfter, rest-none, Before, set-out, square-here, edge-here, rest-first, onward, all-marked}
 use Rattle.cycles.specs.Straight.{Straight, Gone, RunDone, run-done}
 use Rattle.cycles.specs.Walking.{cornersFrom}
 use Rattle.cycle_checks.specs.Says.{Says, says-yes, says-no, denied}
@@ -60,6 +59,10 @@ pub record CornerDue (table given : List ℕ) (used x y d : ℕ) : Type 0 where
   pub y-low : y ≤ 256
   pub inside : d ≡ 0 → (x < 256) × (y < 256)
 
+-- The edges that are left of the cycle, from e on.
+abbrev pub edgesLeft : (ℕ → ℕ → ℕ) → ℕ → ℕ → List ℕ
+edgesLeft m s e = e ∷ rest m s (step m e)
+
 -- Before a run: the walk is at the corner (x, y), where the edge with the digit d begins. The `used` corners before it are as given, and
 -- the edges walked have no pixel with a smaller code than that of s on their right.
 pub record Comparing (side r s : ℕ) (map₀ given map : List ℕ) (used x y d : ℕ) : Type 0 where
@@ -69,9 +72,9 @@ pub record Comparing (side r s : ℕ) (map₀ given map : List ℕ) (used x y d 
   pub before : ℕ
   pub due : before ≢ d
   pub within : used ≤ length given
-  pub total : take used given ++ turns before (edge (point x y) d ∷ rest (mapAt side map₀) s (step (mapAt side map₀) (edge (point x y) d))) ≡ cornersFrom (mapAt side map₀) s
+  pub total : take used given ++ turns before (edgesLeft (mapAt side map₀) s (edge (point x y) d)) ≡ cornersFrom (mapAt side map₀) s
   pub walked : List ℕ
-  pub whole : walked ++ edge (point x y) d ∷ rest (mapAt side map₀) s (step (mapAt side map₀) (edge (point x y) d)) ≡ cycleFrom (mapAt side map₀) s
+  pub whole : walked ++ edgesLeft (mapAt side map₀) s (edge (point x y) d) ≡ cycleFrom (mapAt side map₀) s
   pub least : (a : ℕ) → In a walked → digit a ≡ 0 → codeRight 8 s ≤ codeRight 8 a
 
 -- The pixel on the right of an eastward edge in the code's numbers.
@@ -104,9 +107,10 @@ module _ {side r s : ℕ} {map₀ given map : List ℕ} {used x y d : ℕ} (firs
   edge-at = record { square = square-here (first .square) (w .round); x-low = w .x-low; low = w .low; on-region = edge-here (first .square) (w .round) }
 
   -- An eastward edge there has a pixel of the image on its right.
-  pub inside-there : d ≡ 0 → (x < 256) × (y < 256)
+  inside-there : d ≡ 0 → (x < 256) × (y < 256)
   inside-there z =
-      let f = east-inside (mapAt side map₀) (at-margin side map₀ (first .square .small)) r (edge (point x y) d) (w .round .on-region) (digit-edge (point x y) d (w .low) ∙ z) in
+      let f = east-inside (mapAt side map₀) (at-margin side map₀ (first .square .small)) r (edge (point x y) d) (w .round .on-region)
+      (digit-edge (point x y) d (w .low) ∙ z) in
       let ex : xOf (tail (edge (point x y) d)) ≡ x = ap xOf (tail-edge (point x y) d (w .low)) ∙ x-of-point x y (w .x-low) in
       let ey : yOf (tail (edge (point x y) d)) ≡ y = ap yOf (tail-edge (point x y) d (w .low)) ∙ y-of-point x y (w .x-low) in
       (omega (arith, f .0), omega (arith, f .1))
@@ -116,7 +120,8 @@ module _ {side r s : ℕ} {map₀ given map : List ℕ} {used x y d : ℕ} (firs
   corner-due e = let v = way-at edge-at in record { spread = e; within = w .within; x-low = v .x-low; y-low = v .y-low; inside = inside-there }
 
   -- The corner is not yet taken.
-  due-there : take used given ++ point x y ∷ turns (digit (edge (point x y) d)) (rest (mapAt side map₀) s (step (mapAt side map₀) (edge (point x y) d))) ≡ cornersFrom (mapAt side map₀) s
+  due-there : take used given ++ point x y ∷ turns (digit (edge (point x y) d)) (rest (mapAt side map₀) s (step (mapAt side map₀) (edge (point x y) d)))
+      ≡ cornersFrom (mapAt side map₀) s
   due-there =
       let e : ℕ = edge (point x y) d in
       let next : List ℕ = rest (mapAt side map₀) s (step (mapAt side map₀) e) in
@@ -125,7 +130,7 @@ module _ {side r s : ℕ} {map₀ given map : List ℕ} {used x y d : ℕ} (firs
       ∙ w .total
 
   -- Where the given corners match they agree here.
-  pub matching-agrees : Matches side s map₀ given → CornerAgrees given used (codeRight 8 s) x y d
+  matching-agrees : Matches side s map₀ given → CornerAgrees given used (codeRight 8 s) x y d
   matching-agrees a =
       let e : ℕ = edge (point x y) d in
       let next : List ℕ = rest (mapAt side map₀) s (step (mapAt side map₀) e) in
@@ -169,7 +174,8 @@ module _ {side r : ℕ} {map₀ : List ℕ} (column row : ℕ) (first : FirstEdg
   pub start-inside : (column < 256) × (row < 256)
   start-inside = inside-there first (at-first {given = []}) refl
 
-  module _ {least : ℕ} (its-code : least ≡ code 8 column row) {given map : List ℕ} {used x y d : ℕ} (w : Comparing side r (edge (point column row) 0) map₀ given map used x y d) where
+  module _ {least : ℕ} (its-code : least ≡ code 8 column row) {given map : List ℕ} {used x y d : ℕ}
+      (w : Comparing side r (edge (point column row) 0) map₀ given map used x y d) where
     code-of-first : codeRight 8 (edge (point column row) 0) ≡ least
     code-of-first = code-of-edge column row 0 narrow (omega arith) ∙ sym its-code
 
@@ -181,7 +187,8 @@ module _ {side r : ℕ} {map₀ : List ℕ} (column row : ℕ) (first : FirstEdg
       marked = λ h. absurd (false≢true h);
     }
 
-    pub one-run-more : CornerAgrees given used least x y d → {map′ : List ℕ} {x′ y′ d′ : ℕ} → Gone 0 side r map x y d map′ x′ y′ d′ → OneRunMore side r column row map₀ given map′ (used + 1) x y d x′ y′ d′
+    pub one-run-more : CornerAgrees given used least x y d → {map′ : List ℕ} {x′ y′ d′ : ℕ} → Gone 0 side r map x y d map′ x′ y′ d′
+        → OneRunMore side r column row map₀ given map′ (used + 1) x y d x′ y′ d′
     unfolding leftAfter turns
     one-run-more agrees {map′} {x′} {y′} {d′} gone = record {
       small = omega (arith, gone .x-low, gone .y-low, gone .low);

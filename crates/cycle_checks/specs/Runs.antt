@@ -3,7 +3,7 @@
 use mathlib.Core.Path.{_≡_, refl, sym, ap, _∙_, subst}
 use mathlib.Core.Logic.{_≢_, _⊎_, inl, inr}
 use mathlib.Core.List.{List, [], _∷_, _++_}
-use Prim.Native.Nat.{ℕ, zero, suc, _≤_, _<_}
+use Prim.Native.Nat.{ℕ, suc, _≤_, _<_}
 use native.Mathlib.Nat.{le-refl, le-trans, le-of-lt}
 use native.Mathlib.Omega.{arith}
 use Rattle.interleaving.specs.Codes.{code}
@@ -72,7 +72,9 @@ module _ {side r s : ℕ} {map₀ : List ℕ} (first : FirstEdge side r s map₀
             ap (turns (digit e)) here ∙ turns-on (digit e) (step m e) (rest m s (step m (step m e))) (sym straight)
             ∙ subst (λ (d : ℕ). turns d (rest m s (step m (step m e))) ≡ turns d (rest m s e′)) straight (t .no-corner);
         one-way = λ a i. same (t .run) a (in-cases a e (t .run) i) (t .one-way) straight;
-        rising = λ z a i. least (t .run) a (in-cases a e (t .run) i) (le-of-lt (code-grows m (at-margin side map₀ (first .square .small)) r e (g .on-region) z (straight ∙ z))) (t .rising (straight ∙ z));
+        rising = λ z a i.
+            let grows : codeRight 8 e < codeRight 8 (step m e) = code-grows m (at-margin side map₀ (first .square .small)) r e (g .on-region) z (straight ∙ z) in
+            least (t .run) a (in-cases a e (t .run) i) (le-of-lt grows) (t .rising (straight ∙ z));
       }
     where
       f : ℕ

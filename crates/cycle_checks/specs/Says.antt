@@ -1,4 +1,4 @@
--- Yes or no.
+-- What a yes or no says.
 use mathlib.Core.Path.{_≡_, refl, sym, _∙_}
 use mathlib.Core.Logic.{_↔_}
 use mathlib.Core.Bool.{Bool, true, false, not, false≢true}

@@ -143,8 +143,8 @@ fn walk(
     }
 }
 
-// Whether the points, owned by the region `owner`, are a cycle of the map from its start. If so, its eastward edges are marked; if not, which
-// entries of the map bear marks is free.
+// Whether the points, owned by the region `owner`, are a cycle of the map from its start. If so, its eastward edges are marked; if not, the
+// content of the map is free.
 pub fn cycle_agrees(n: u32, table: &[u16; 256], owner: u32, points: &[u32], map: &mut [u32]) -> bool
     requires { ⌜ Checkable n (now table) (now map) ⌝ }
     ensures { λ ok. ⌜ CycleChecked n owner (now (points .entry)) (now (map .entry)) (now (map .exit)) ok ⌝ }

@@ -4,7 +4,7 @@ use mathlib.Core.Logic.{_⊎_, inl, inr, _↔_}
 use mathlib.Core.Bool.{Bool, true, false, cond, _||_}
 use mathlib.Core.List.{List, []}
 use Prim.Native.Nat.{ℕ, _*_, _^_, _≤_, _<_}
-use native.Mathlib.Decide.{decLt, decLe}
+use native.Mathlib.Decide.{decLt}
 use native.Mathlib.Omega.{arith}
 use lib.Dec.{eqb}
 use lib.ListN.{length, getD, replicate, length-replicate, getD-replicate}
@@ -12,16 +12,12 @@ use Rattle.sequences.specs.Over.{over, over-none, over-inside, over-beyond}
 use Rattle.answers.specs.declared.Written.{Written}
 use Rattle.quadtree.specs.Fields.{codes, levels, colours}
 use Rattle.quadtree.specs.Quadtree.{quadtree}
-use Rattle.quadtree.specs.BlockLists.{BlockList, listOf, leastLength, RoomFor, room-by-least}
+use Rattle.quadtree.specs.BlockLists.{BlockList, listOf}
 use Rattle.block_answers.specs.BlockWriters.{resultOf, number-answered, result-is-written, refusal-leaves-all}
 use Rattle.given_outlines.specs.Given.{Given, HasGiven, ListHasGiven}
 use Rattle.given_outlines.specs.Judged.{outlinesNumber, Verdict, given-back, no-such-image, verdict, candidateOf, accepted-has, refused-exactly-when-no-accepted-list, list-of-image, has-accepted, one-list}
-use Rattle.restoring.specs.Promise.{restoringNumber, blocksBack, zerosAfter, Restoring, side-too-large, output-short, work-short, past-eight}
-
--- Lent lists "of 4^n" for the blocks, and a work list of "8 times 4^n 32-bit entries".
-pub record LongEnough (n : ℕ) (lent : BlockList) (work : List ℕ) : Type 0 where
-  pub room : RoomFor (4 ^ n) lent
-  pub for-work : 8 * 4 ^ n ≤ length work
+use Rattle.restoring.specs.Promise.{tooShort, restoringNumber, blocksBack, zerosAfter, Restoring, side-too-large, number-short, past-eight}
+use Rattle.restoring.specs.Lengths.{LongEnough, none-short, long-enough, one-short}
 
 module _ {n : ℕ} {g : Given} {before after : BlockList} {work₀ work₁ : List ℕ} {r : Written} (p : Restoring n g before work₀ after work₁ r) where
   answered : r .number ≡ restoringNumber n g before work₀
@@ -33,17 +29,12 @@ module _ {n : ℕ} {g : Given} {before after : BlockList} {work₀ work₁ : Lis
   one-comes-first h = answered ∙ sym (number-answered (side-too-large n g before work₀ h .writes))
 
   pub eight-comes-next : n ≤ 8 → (LongEnough n before work₀ → ⊥) → r .number ≡ 8
-  eight-comes-next small short = answered ∙ pick (decLt (leastLength before) (4 ^ n)) (decLt (length work₀) (8 * 4 ^ n))
-    where
-      pick : Dec (leastLength before < 4 ^ n) → Dec (length work₀ < 8 * 4 ^ n) → restoringNumber n g before work₀ ≡ 8
-      pick (yes h) w = sym (number-answered (output-short n g before work₀ small h .writes))
-      pick (no h) (yes w) = sym (number-answered (work-short n g before work₀ small w .writes))
-      pick (no h) (no w) = absurd (short (record { room = room-by-least (omega arith); for-work = omega arith }))
+  eight-comes-next small short = answered ∙ number-short n g before work₀ small (one-short n before work₀ short)
 
   -- Past 1 and 8:
   module _ (small : n ≤ 8) (long : LongEnough n before work₀) where
     number-of-outlines : r .number ≡ outlinesNumber n g
-    number-of-outlines = answered ∙ past-eight n g before work₀ small (long .room) (long .for-work)
+    number-of-outlines = answered ∙ past-eight n g before work₀ small (none-short n before work₀ long)
 
     -- "it is refused exactly when no accepted list of that n has those cycles, owners, ends, corners and region colours".
     pub eighteen-exactly-when-no-accepted-list-has-it : (r .number ≡ 18) ↔ ((a : BlockList) → ListHasGiven n g a → ⊥)
@@ -69,7 +60,7 @@ module _ {n : ℕ} {g : Given} {before after : BlockList} {work₀ work₁ : Lis
 
   -- 0 and 18 are answered past 1 and 8 only.
   pub asked-past-eight : (r .number ≡ 0) ⊎ (r .number ≡ 18) → (n ≤ 8) × LongEnough n before work₀
-  asked-past-eight said = pick (decLt 8 n) (decLe (4 ^ n) (leastLength before)) (decLe (8 * 4 ^ n) (length work₀))
+  asked-past-eight said = pick (decLt 8 n) (tooShort n before work₀) refl
     where
       other : {k : ℕ} → 0 < k → k < 18 → r .number ≡ k → ⊥
       other {k} a b e = by said
@@ -78,14 +69,10 @@ module _ {n : ℕ} {g : Given} {before after : BlockList} {work₀ work₁ : Lis
           by (inl z) = let w : ⊥ = omega arith in w
           by (inr z) = let w : ⊥ = omega arith in w
 
-      short : n ≤ 8 → (LongEnough n before work₀ → ⊥) → ⊥
-      short small f = other (omega arith) (omega arith) (eight-comes-next small f)
-
-      pick : Dec (8 < n) → Dec (4 ^ n ≤ leastLength before) → Dec (8 * 4 ^ n ≤ length work₀) → (n ≤ 8) × LongEnough n before work₀
-      pick (yes a) b c = absurd (other (omega arith) (omega arith) (one-comes-first a))
-      pick (no a) (yes b) (yes c) = (omega arith, record { room = room-by-least b; for-work = c })
-      pick (no a) (yes b) (no c) = absurd (short (omega arith) (λ l. let w : ⊥ = omega (arith, l .for-work) in w))
-      pick (no a) (no b) c = absurd (short (omega arith) (λ l. let w : ⊥ = omega (arith, l .room .in-codes, l .room .in-levels, l .room .in-colours) in w))
+      pick : Dec (8 < n) → (t : Bool) → tooShort n before work₀ ≡ t → (n ≤ 8) × LongEnough n before work₀
+      pick (yes a) t e = absurd (other (omega arith) (omega arith) (one-comes-first a))
+      pick (no a) true e = absurd (other (omega arith) (omega arith) (answered ∙ number-short n g before work₀ (omega arith) e))
+      pick (no a) false e = (omega arith, long-enough n before work₀ e)
 
   -- ---- "Give back the block list they came from"
 

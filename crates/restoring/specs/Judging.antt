@@ -32,11 +32,9 @@ use Rattle.restoring.specs.Ends.{endsRise, rising-agree, agree-rising}
 abbrev pub NoneHas : ℕ → Outlines → Type 0
 NoneHas n o = (px : List ℕ) → HasOutlines n o px → ⊥
 
--- The lists agree with each other and are no longer than an image allows.
+-- There are no more regions than pixels, and the lists agree with each other.
 pub record Fitting (n : ℕ) (o : Outlines) : Type 0 where
   pub few-regions : length (o .colourList) ≤ 4 ^ n
-  pub few-cycles : length (o .endList) ≤ 4 ^ n
-  pub few-corners : length (o .cornerList) ≤ 4 * 4 ^ n
   pub agree : Agreeing (o .ownerList) (o .endList) (o .cornerList)
 
 pub record ListsJudged (n : ℕ) (o : Outlines) (ok : Bool) : Type 0 where
@@ -81,10 +79,10 @@ module _ {n : ℕ} {o : Outlines} (small : n ≤ 8) where
   unfolding cornerCount
   too-many-corners h = unfit (λ px has. let z : ⊥ = omega (arith, ap length (has .corners-are), few-corners px small) in z)
 
-  pub by-ends : length (o .ownerList) ≡ length (o .endList) → length (o .colourList) ≤ 4 ^ n → length (o .endList) ≤ 4 ^ n → length (o .cornerList) ≤ 4 * 4 ^ n
-      → {ok : Bool} → ok ≡ endsRise 0 (o .endList) (length (o .cornerList)) → ListsJudged n o ok
-  by-ends each r c k {ok} e = record {
-    fitting = λ t. record { few-regions = r; few-cycles = c; few-corners = k; agree = rising-agree each (sym e ∙ t) };
+  pub by-ends : length (o .ownerList) ≡ length (o .endList) → length (o .colourList) ≤ 4 ^ n → {ok : Bool} → ok ≡ endsRise 0 (o .endList) (length (o .cornerList))
+      → ListsJudged n o ok
+  by-ends each r {ok} e = record {
+    fitting = λ t. record { few-regions = r; agree = rising-agree each (sym e ∙ t) };
     none = λ f px has. false≢true (sym f ∙ e ∙ agree-rising (lists-agree has));
   }
 

@@ -1,5 +1,6 @@
 -- What giving back the block list of given outlines promises.
 pub mod Promise
+pub mod Lengths
 -- The check: the ends, the passes one after the other.
 pub mod Ends
 pub mod Judging

@@ -7,27 +7,30 @@ use native.Mathlib.Omega.{arith}
 use lib.Dec.{eqb, ltb}
 use lib.ListN.{length, replicate}
 use borrow.Author.Tests.{lt-ltb, le-ltb}
-use Rattle.sequences.specs.Cases.{first, when, first-some, first-none, when-yes, when-no, or-right}
+use Rattle.sequences.specs.Cases.{first, when, first-some, first-none, when-yes, when-no}
 use Rattle.sequences.specs.Over.{over, over-none}
 use Rattle.answers.specs.declared.Written.{Written}
 use Rattle.quadtree.specs.Blocks.{Block}
 use Rattle.quadtree.specs.Fields.{codes, levels, colours}
 use Rattle.quadtree.specs.Quadtree.{quadtree}
-use Rattle.quadtree.specs.BlockLists.{BlockList, oneShort, leastLength, tooShort, short-by-least, RoomFor}
+use Rattle.quadtree.specs.BlockLists.{BlockList, oneShort}
 use Rattle.block_answers.specs.BlockWriters.{WritesBlocks, blocks-refused, blocks-written}
 use Rattle.given_outlines.specs.Given.{Given}
 use Rattle.given_outlines.specs.Candidate.{candidate}
 use Rattle.given_outlines.specs.Judged.{candidateOf, outlinesNumber}
 
--- "8 for three output lists of 4^n and the work list", which "is 8 times 4^n 32-bit entries": one of the four is shorter.
-unfoldable pub lentShort : ℕ → BlockList → List ℕ → Bool
+-- "8 for three output lists of 4^n and the work list", which "is 8 times 4^n 32-bit entries": one of the four is shorter, by their lengths.
+unfoldable pub lentShort : ℕ → ℕ → ℕ → ℕ → ℕ → Bool
 unfolding oneShort
-lentShort n lent work = tooShort (4 ^ n) lent || ltb (length work) (8 * 4 ^ n)
+lentShort n codes levels colours work = oneShort (4 ^ n) codes levels colours || ltb work (8 * 4 ^ n)
+
+abbrev pub tooShort : ℕ → BlockList → List ℕ → Bool
+tooShort n lent work = lentShort n (length (lent .codes)) (length (lent .levels)) (length (lent .colours)) (length work)
 
 -- "Checks: 1, then 8 .., then new 18 (no such image)".
 unfoldable pub restoringNumber : ℕ → Given → BlockList → List ℕ → ℕ
 unfolding first when lentShort outlinesNumber
-restoringNumber n g lent work = first (when (ltb 8 n) 1) (first (when (lentShort n lent work) 8) (outlinesNumber n g))
+restoringNumber n g lent work = first (when (ltb 8 n) 1) (first (when (tooShort n lent work) 8) (outlinesNumber n g))
 
 -- "Give back the block list they came from": that of the only image that can have what is given.
 unfoldable pub blocksBack : ℕ → Given → List Block
@@ -50,48 +53,30 @@ module _ (n : ℕ) (g : Given) (lent : BlockList) (work : List ℕ) where
   pub side-too-large : 8 < n → Restoring n g lent work lent work (record { number = 1; count = 0 })
   unfolding restoringNumber zerosAfter
   side-too-large h =
-      let e : restoringNumber n g lent work ≡ 1 = ap (λ (t : Bool). first (when t 1) (first (when (lentShort n lent work) 8) (outlinesNumber n g))) (lt-ltb 8 n h) in
+      let e : restoringNumber n g lent work ≡ 1 = ap (λ (t : Bool). first (when t 1) (first (when (tooShort n lent work) 8) (outlinesNumber n g))) (lt-ltb 8 n h) in
       record { writes = blocks-refused (omega arith) (sym e); in-work = sym (ap (λ k. over (zerosAfter n k) work) e ∙ over-none work) }
 
   module _ (small : n ≤ 8) where
-    past-one : restoringNumber n g lent work ≡ first (when (lentShort n lent work) 8) (outlinesNumber n g)
+    past-one : restoringNumber n g lent work ≡ first (when (tooShort n lent work) 8) (outlinesNumber n g)
     unfolding restoringNumber
     past-one = first-none (when (ltb 8 n) 1) _ (when-no (ltb 8 n) 1 (le-ltb 8 n small))
 
-    number-short : lentShort n lent work ≡ true → restoringNumber n g lent work ≡ 8
+    pub number-short : tooShort n lent work ≡ true → restoringNumber n g lent work ≡ 8
     number-short h =
-        let e : when (lentShort n lent work) 8 ≡ 8 = when-yes (lentShort n lent work) 8 h in
-        past-one ∙ first-some (when (lentShort n lent work) 8) (outlinesNumber n g) (omega (arith, e)) ∙ e
+        let e : when (tooShort n lent work) 8 ≡ 8 = when-yes (tooShort n lent work) 8 h in
+        past-one ∙ first-some (when (tooShort n lent work) 8) (outlinesNumber n g) (omega (arith, e)) ∙ e
 
-    lists-kept : lentShort n lent work ≡ true → Restoring n g lent work lent work (record { number = 8; count = 0 })
+    pub one-too-short : tooShort n lent work ≡ true → Restoring n g lent work lent work (record { number = 8; count = 0 })
     unfolding zerosAfter
-    lists-kept h = record {
+    one-too-short h = record {
       writes = blocks-refused (omega arith) (sym (number-short h));
       in-work = sym (ap (λ k. over (zerosAfter n k) work) (number-short h) ∙ over-none work);
     }
 
-    pub output-short : leastLength lent < 4 ^ n → Restoring n g lent work lent work (record { number = 8; count = 0 })
-    unfolding lentShort
-    output-short h =
-        lists-kept
-        (ap (λ (t : Bool). t || ltb (length work) (8 * 4 ^ n)) (short-by-least (4 ^ n) (length (lent .codes)) (length (lent .levels)) (length (lent .colours)) ∙ lt-ltb (leastLength lent) (4 ^ n) h))
-
-    pub work-short : length work < 8 * 4 ^ n → Restoring n g lent work lent work (record { number = 8; count = 0 })
-    unfolding lentShort
-    work-short h = lists-kept (or-right (tooShort (4 ^ n) lent) (ltb (length work) (8 * 4 ^ n)) (lt-ltb (length work) (8 * 4 ^ n) h))
-
-    module _ (room : RoomFor (4 ^ n) lent) (long : 8 * 4 ^ n ≤ length work) where
-      none-short : lentShort n lent work ≡ false
-      unfolding lentShort
-      none-short =
-          ap (λ (t : Bool). t || ltb (length work) (8 * 4 ^ n))
-          (short-by-least (4 ^ n) (length (lent .codes)) (length (lent .levels)) (length (lent .colours))
-          ∙ le-ltb (leastLength lent) (4 ^ n) (omega (arith, room .in-codes, room .in-levels, room .in-colours)))
-          ∙ le-ltb (length work) (8 * 4 ^ n) long
-
+    module _ (long : tooShort n lent work ≡ false) where
       -- Past 1 and 8 the number is that of the outlines.
       pub past-eight : restoringNumber n g lent work ≡ outlinesNumber n g
-      past-eight = past-one ∙ first-none (when (lentShort n lent work) 8) (outlinesNumber n g) (when-no (lentShort n lent work) 8 none-short)
+      past-eight = past-one ∙ first-none (when (tooShort n lent work) 8) (outlinesNumber n g) (when-no (tooShort n lent work) 8 long)
 
       pub no-image : outlinesNumber n g ≡ 18 → {work₁ : List ℕ} → work₁ ≡ over (replicate (8 * 4 ^ n) 0) work
           → Restoring n g lent work lent work₁ (record { number = 18; count = 0 })

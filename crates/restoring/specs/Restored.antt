@@ -1,5 +1,6 @@
 -- The block list given back for outlines whose counts fit, and from there the promise.
 use mathlib.Core.Path.{_≡_, refl, sym, ap, ap₂, _∙_, subst, subst₂}
+use mathlib.Core.Bool.{false}
 use mathlib.Core.List.{List, _++_, append-nil}
 use Prim.Native.Nat.{ℕ, _*_, _^_, _≤_}
 use lib.ListN.{length, replicate, drop, length-append, length-drop, length-replicate, drop-of-length-le}
@@ -14,7 +15,8 @@ use Rattle.cycles.specs.Mapped.{numsOf}
 use Rattle.appending.specs.Progress.{AllWritten}
 use Rattle.given_outlines.specs.Given.{Outlines, Given, upToCounts, HasOutlines, coloured}
 use Rattle.given_outlines.specs.Judged.{candidateOf, outlinesNumber, has-accepted, none-refused}
-use Rattle.restoring.specs.Promise.{Restoring, blocksBack, no-image, given-back}
+use Rattle.restoring.specs.Promise.{tooShort, Restoring, blocksBack, no-image, given-back}
+use Rattle.restoring.specs.Lengths.{LongEnough, long-enough}
 use Rattle.map_blocks.specs.Painting.{Paintable}
 use Rattle.restoring.specs.Judging.{NoneHas, Judgeable, Found}
 use Rattle.restoring.specs.Counts.{CountsFit, given-fits, fitting-given}
@@ -47,8 +49,9 @@ module _ {n : ℕ} {o : Outlines} {lent : BlockList} {work : List ℕ} (start : 
     same = w .same;
   }
 
-  pub none-given-back : {work′ : List ℕ} → NoneHas n o → work′ ≡ replicate (8 * 4 ^ n) 0 → Restored n o lent work lent work′ (record { number = 18; count = 0 })
-  none-given-back f zeros = record { outcome = none f refl refl; zeros = zeros; same = record { for-codes = refl; for-levels = refl; for-colours = refl } }
+  pub none-given-back : {work′ : List ℕ} {r : Written} → NoneHas n o → r ≡ record { number = 18; count = 0 } → work′ ≡ replicate (8 * 4 ^ n) 0
+      → Restored n o lent work lent work′ r
+  none-given-back f e zeros = record { outcome = none f e refl; zeros = zeros; same = record { for-codes = refl; for-levels = refl; for-colours = refl } }
 
 -- A list cleared from end to end.
 pub cleared : {k s : ℕ} (l : List ℕ) {l′ : List ℕ} → length l ≡ k → s ≡ k → l′ ≡ fill l 0 s 0 → l′ ≡ replicate k 0
@@ -67,13 +70,14 @@ part-back {k} {s} {part} l e f h =
 
 -- ---- the promise
 
-module _ (n : ℕ) (g : Given) (lent : BlockList) (work : List ℕ) (small : n ≤ 8) (room : RoomFor (4 ^ n) lent) (long : 8 * 4 ^ n ≤ length work) where
+module _ (n : ℕ) (g : Given) (lent : BlockList) (work : List ℕ) (small : n ≤ 8) (long : tooShort n lent work ≡ false) where
   -- A list shorter than its count.
-  pub counts-refused : (CountsFit g → ⊥) → {need : ℕ} {work₁ : List ℕ} → need ≡ 8 * 4 ^ n → work₁ ≡ fill work 0 need 0
-      → Restoring n g lent work lent work₁ (record { number = 18; count = 0 })
-  counts-refused f e filled =
-      no-image n g lent work small room long (none-refused n g small (λ px h. f (given-fits h)))
-      (filled ∙ ap (λ s. fill work 0 s 0) e ∙ fill-front work (8 * 4 ^ n) 0 long)
+  pub counts-refused : (CountsFit g → ⊥) → {need : ℕ} {work₁ : List ℕ} {r : Written} → need ≡ 8 * 4 ^ n → r ≡ record { number = 18; count = 0 } → work₁ ≡ fill work 0 need 0
+      → Restoring n g lent work lent work₁ r
+  counts-refused f {work₁ = work₁} e answer filled =
+      subst (Restoring n g lent work lent work₁) (sym answer)
+      (no-image n g lent work small long (none-refused n g small (λ px h. f (given-fits h)))
+      (filled ∙ ap (λ s. fill work 0 s 0) e ∙ fill-front work (8 * 4 ^ n) 0 (long-enough n lent work long .for-work)))
 
   -- The part of the work list that was lent stands in front of the rest again.
   pub restored : CountsFit g → {need : ℕ} {part part′ : List ℕ} {after : BlockList} {r : Written} → need ≡ 8 * 4 ^ n → Restored n (upToCounts g) lent part after part′ r
@@ -92,7 +96,7 @@ module _ (n : ℕ) (g : Given) (lent : BlockList) (work : List ℕ) (small : n �
           let a = has-accepted n g small px (fitting-given fit has) in
           let back : quadtree n px ≡ quadtree n (candidateOf n g) = ap (quadtree n) (sym (a .1)) in
           subst (Restoring n g lent work after work₁) (sym e)
-          (given-back n g lent work small room long (a .0) zeros (ap length back) (stored-in-front (blocksBack n g) lent after (f ∙ ap (λ bs. stored 0 bs lent) back)))
+          (given-back n g lent work small long (a .0) zeros (ap length back) (stored-in-front (blocksBack n g) lent after (f ∙ ap (λ bs. stored 0 bs lent) back)))
       pick (none f e same) =
           subst₂ (λ l a. Restoring n g lent work l work₁ a) (sym same) (sym e)
-          (no-image n g lent work small room long (none-refused n g small (λ px h. f px (h .up-to-counts))) zeros)
+          (no-image n g lent work small long (none-refused n g small (λ px h. f px (h .up-to-counts))) zeros)

@@ -24,7 +24,7 @@ fn ends_rise(ends: &[u32], total: usize) -> bool
     from == total
 }
 
-// Whether the lists agree with each other and are no longer than an image allows.
+// Whether the lists agree with each other. Longer lists than any image has are refused before they are gone through.
 fn lists_agree(n: u32, owners: &[u32], ends: &[u32], corners: &[u32], colours: &[u16]) -> bool
     requires { ⌜ (n ≤ 8) × (length (now owners) ≡ length (now ends)) ⌝ }
     ensures { λ ok. ⌜ ListsJudged n (outlinesOf (now (owners .entry)) (now (ends .entry)) (now (corners .entry)) (now (colours .entry))) ok ⌝ }

@@ -1,21 +1,42 @@
 // The block list of the only image that has given outlines and region colours.
 use answers::Written;
 use judge::has_image;
+use map_blocks::write_blocks;
 ghost use mathlib.Core.Path.{_≡_};
-ghost use Prim.Native.Nat.{min};
+ghost use Prim.Native.Nat.{_≤_};
+ghost use lib.ListN.{length};
+ghost use Rattle.sequences.specs.Fill.{fill};
 ghost use Rattle.quadtree.specs.BlockLists.{listOf};
 ghost use Rattle.given_outlines.specs.Given.{outlinesOf};
 ghost use Rattle.restoring.specs.Counts.{givenAs, CountsJudged};
 ghost use Rattle.restoring.specs.Restored.{Restorable, Restored};
-ghost use Rattle.restoring.specs.Promise.{Restoring};
+ghost use Rattle.restoring.specs.Promise.{lentShort, Restoring};
 
 mod judge;
 
-// The smaller of two lengths.
-fn least(a: usize, b: usize) -> usize
-    ensures { λ r. ⌜ r ≡ min a b ⌝ }
+// The answer of a refusal.
+fn refused(number: u32) -> Written
+    ensures { λ r. ⌜ r ≡ record { number = number; count = 0 } ⌝ }
 {
-    if b < a { b } else { a }
+    Written { number, count: 0 }
+}
+
+// Whether one of the lists for the blocks or the work list is shorter than its need, by their lengths.
+fn one_short(n: u32, codes: usize, levels: usize, colours: usize, work: usize) -> bool
+    requires { ⌜ n ≤ 8 ⌝ }
+    ensures { λ r. ⌜ r ≡ lentShort n codes levels colours work ⌝ }
+{
+    let whole = location::pixels(n);
+    if codes < whole {
+        return true;
+    }
+    if levels < whole {
+        return true;
+    }
+    if colours < whole {
+        return true;
+    }
+    work < 8 * whole
 }
 
 // Whether each list has as many entries as its count says.
@@ -42,7 +63,16 @@ fn counts_fit(
     regions as usize <= colours.len()
 }
 
-// The block list of the image that has these outlines; 18 where there is none. Clears the work list.
+// The answer where there is no such image: the first `need` entries of the work list are cleared.
+fn no_image(need: usize, work: &mut [u32]) -> Written
+    requires { ⌜ need ≤ length (now work) ⌝ }
+    ensures { λ r. ⌜ (r ≡ record { number = 18; count = 0 }) × (now (work .exit) ≡ fill (now (work .entry)) 0 need 0) ⌝ }
+{
+    filling::fill(work, 0, need, 0);
+    refused(18)
+}
+
+// The block list of the image that has these outlines, if there is one. Clears the work list.
 fn restore(
     n: u32,
     owners: &[u32],
@@ -59,16 +89,12 @@ fn restore(
         (listOf (now (codes .entry)) (now (levels .entry)) (now (colours .entry))) (now (work .entry))
         (listOf (now (codes .exit)) (now (levels .exit)) (now (colours .exit))) (now (work .exit)) r ⌝ }
 {
-    let need = work.len();
+    let whole = work.len();
     if !has_image(n, owners, ends, corners, region_colours, work) {
-        filling::fill(work, 0, need, 0);
-        return Written {
-            number: 18,
-            count: 0,
-        };
+        return no_image(whole, work);
     }
-    let count = map_blocks::write_blocks(n, work, region_colours, codes, levels, colours) as u32;
-    filling::fill(work, 0, need, 0);
+    let count = write_blocks(n, work, region_colours, codes, levels, colours) as u32;
+    filling::fill(work, 0, whole, 0);
     Written { number: 0, count }
 }
 
@@ -92,27 +118,13 @@ pub fn blocks_from_outlines(
         (listOf (now (codes .entry)) (now (levels .entry)) (now (colours .entry))) (now (work .entry))
         (listOf (now (codes .exit)) (now (levels .exit)) (now (colours .exit))) (now (work .exit)) r ⌝ }
 {
-    let whole = location::pixels(n);
-    let room = least(codes.len(), least(levels.len(), colours.len()));
     if 8 < n {
-        return Written {
-            number: 1,
-            count: 0,
-        };
+        return refused(1);
     }
-    if room < whole {
-        return Written {
-            number: 8,
-            count: 0,
-        };
+    if one_short(n, codes.len(), levels.len(), colours.len(), work.len()) {
+        return refused(8);
     }
-    let need = 8 * whole;
-    if work.len() < need {
-        return Written {
-            number: 8,
-            count: 0,
-        };
-    }
+    let need = 8 * location::pixels(n);
     if !counts_fit(
         regions,
         cycles,
@@ -122,11 +134,7 @@ pub fn blocks_from_outlines(
         corners,
         region_colours,
     ) {
-        filling::fill(work, 0, need, 0);
-        return Written {
-            number: 18,
-            count: 0,
-        };
+        return no_image(need, work);
     }
     restore(
         n,

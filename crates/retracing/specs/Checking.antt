@@ -2,16 +2,15 @@
 use mathlib.Core.Path.{_≡_, refl, sym, ap, ap₂, _∙_, subst, subst₂}
 use mathlib.Core.Logic.{_⊎_, _↔_}
 use mathlib.Core.Bool.{Bool, true, false, not, false≢true}
-use mathlib.Core.List.{List, _∷_}
-use Prim.Native.Nat.{ℕ, zero, suc, _+_, _-_, _^_, _≤_, _<_}
+use mathlib.Core.List.{List}
+use Prim.Native.Nat.{ℕ, zero, suc, _+_, _-_, _≤_, _<_}
 use native.Mathlib.Numerals.{add-one}
 use native.Mathlib.Omega.{arith}
-use lib.ListN.{length, getD, take, drop, length-take, length-drop}
+use lib.ListN.{length, getD, take, drop, length-take}
 use lib.Seq.{drop-cons}
 use borrow.Author.Tests.{not-false}
-use Rattle.sequences.specs.Powers.{pow2-mono, pow4-mono}
+use Rattle.sequences.specs.Powers.{pow2-mono}
 use Rattle.interleaving.specs.Codes.{code}
-use Rattle.interleaving.specs.Interleaving.{code-below}
 use Rattle.interleaving.specs.Splitting.{code-wider}
 use Rattle.interleaving.specs.Spreads.{spreads}
 use Rattle.lattice.specs.Directions.{xOf, yOf}
@@ -19,18 +18,17 @@ use Rattle.orbits.specs.Members.{In}
 use Rattle.grid.specs.Cycles.{cornerOf, northSide, cycle}
 use Rattle.grid.specs.Sides.{sideAt}
 use Rattle.grid.specs.Listing.{Cycle, owners, pointsAt}
-use Rattle.grid.specs.Keeping.{Before}
 use Rattle.quadtree.specs.Raster.{place}
 use Rattle.quadtree.specs.Orders.{place-in}
 use Rattle.stretches.specs.Stretch.{beginOf}
-use Rattle.cycles.specs.Mapped.{numsOf, Mapped, Marked}
+use Rattle.cycles.specs.Mapped.{numsOf, Marked}
 use Rattle.cycles.specs.CycleStarts.{CycleMarked}
 use Rattle.given_outlines.specs.Given.{cyclesIn}
-use Rattle.given_outlines.specs.Agreeing.{Agreeing, length-held, PartHeld, part-held}
+use Rattle.given_outlines.specs.Agreeing.{length-held, PartHeld, part-held}
 use Rattle.given_outlines.specs.Starts.{codeAt, EachFromItsStart}
 use Rattle.given_outlines.specs.CycleByCycle.{startTold, FromItsStart, FirstPixel, first-pixel, FirstAgree, each-from-its-start, each-in-order}
 use Rattle.given_outlines.specs.CycleByCycle as agreeing
-use Rattle.cycle_checks.specs.Says.{Says, denied, granted}
+use Rattle.cycle_checks.specs.Says.{denied, granted}
 use Rattle.cycle_checks.specs.Checked.{Checkable, CycleChecked}
 use Rattle.retracing.specs.Promise.{Retraceable, MapKept}
 use Rattle.retracing.specs.Ranks.{rank, rankAt, leastRank, least-first, least-next, in-order-ranks}
@@ -161,8 +159,9 @@ module _ {n : ℕ} {os es cs map₀ : List ℕ} (ok : Retraceable n os es cs map
           its-code : code 8 (xOf (getD cs b 0)) (yOf (getD cs b 0)) ≡ startTold n (pointsAt (cyclesIn os es cs) k)
           unfolding codeAt
           its-code =
+              let p : ℕ = getD (take (getD es k 0 - b) (drop b cs)) 0 0 in
               ap₂ (code 8) (ap xOf (sym first-is)) (ap yOf (sym first-is))
-              ∙ code-wider n 8 (xOf (getD (take (getD es k 0 - b) (drop b cs)) 0 0)) (yOf (getD (take (getD es k 0 - b) (drop b cs)) 0 0)) (ok .small) (pixel .x-inside) (pixel .y-inside)
+              ∙ code-wider n 8 (xOf p) (yOf p) (ok .small) (pixel .x-inside) (pixel .y-inside)
               ∙ ap (startTold n) (sym its-points)
 
           module _ {r : ℕ} (ranked : r ≡ rank (getD os k 0) (code 8 (xOf (getD cs b 0)) (yOf (getD cs b 0)))) where

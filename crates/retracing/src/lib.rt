@@ -8,7 +8,7 @@ ghost use lib.ListN.{length};
 ghost use Rattle.interleaving.specs.Codes.{code};
 ghost use Rattle.interleaving.specs.Spreads.{spreads};
 ghost use Rattle.lattice.specs.Directions.{xOf, yOf};
-ghost use Rattle.cycles.specs.Mapped.{Mapped, numsOf};
+ghost use Rattle.cycles.specs.Mapped.{Mapped};
 ghost use Rattle.given_outlines.specs.Given.{cyclesIn};
 ghost use Rattle.cycle_checks.specs.Says.{Says};
 ghost use Rattle.retracing.specs.Promise.{Retraceable, Retraced};

@@ -10,4 +10,5 @@ pub mod overlay;
 pub mod paths;
 pub mod pgm;
 pub mod regions;
+pub mod restoring;
 pub mod touching_up;

@@ -1,5 +1,4 @@
 -- The loop's invariant: the first k cycles agree and stand in order, and the map bears their marks. The measure: the cycles that are left.
-use mathlib.Core.Path.{_≡_}
 use Prim.Native.Nat.{_-_, _≤_, _<_}
 use native.Mathlib.Omega.{arith}
 use lib.ListN.{length, getD}
@@ -126,7 +125,8 @@ add-least c =
     let a = entry b .args in
     let l = b .before .loop in
     let p = getD (a .corners .now) (l .begin) 0 in
-    omega (arith, c .before .rank .ensures, rank-low (getD (a .owners .now) (l .k) 0) (xOf p) (yOf p) (omega (arith, w .before .before .before .shared-slice-known5 .given (l .k))))
+    let o = getD (a .owners .now) (l .k) 0 in
+    omega (arith, c .before .rank .ensures, rank-low o (xOf p) (yOf p) (omega (arith, w .before .before .before .shared-slice-known5 .given (l .k))))
 
 loop-less : tie.Need-loop-less Inv-loop μ-loop
 loop-less c = omega (arith, body (checked (c .before .before .before)) .loop-test .taken)

@@ -1,5 +1,4 @@
 -- One test after the other.
-use native.Mathlib.Omega.{arith}
 use Rattle.retracing.specs.LastPass.{marked-there, in-first-row, by-north}
 use borrow.Author.Needs.{needs}
 use Rattle.retracing.proofs.passes.Statement.{statement}

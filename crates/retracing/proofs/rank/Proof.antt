@@ -1,10 +1,7 @@
 -- The code takes 16 binary digits, the owner stands above them.
-use native.Mathlib.Omega.{arith}
 use mathlib.Core.Path.{ap}
 use Prim.Native.Nat.{ℕ, _+_, _*_}
 use Rattle.lattice.specs.Directions.{xOf, yOf}
-use Rattle.interleaving.specs.Codes.{code}
-use Rattle.interleaving.specs.Interleaving.{code-below}
 use Rattle.retracing.specs.Ranks.{rank}
 use borrow.Author.Needs.{needs}
 use Rattle.retracing.proofs.rank.Statement.{statement}

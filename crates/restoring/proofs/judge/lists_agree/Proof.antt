@@ -40,8 +40,7 @@ ends-rise-requires c κs = search needs
 returns-4 : tie.Need-returns-4
 returns-4 c =
     let from = c .before .before .before .before in
-    by-ends (small from) (entry from .pre .1) (omega (arith, whole from, c .before .before .before .if1 .left)) (omega (arith, whole from, c .before .before .if2 .left))
-    (omega (arith, whole from, c .before .if3 .left)) (c .ends-rise .ensures)
+    by-ends (small from) (entry from .pre .1) (omega (arith, whole from, c .before .before .before .if1 .left)) (c .ends-rise .ensures)
 
 pub lists-agree-spec : {M : Type 1} → statement M
 lists-agree-spec =
