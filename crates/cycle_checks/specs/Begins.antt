@@ -17,7 +17,7 @@ use Rattle.grid.specs.Undoing.{unturn, back, go-right, go-straight, go-left, af
 use Rattle.grid.specs.Returning.{back-edge, step-back}
 use Rattle.steps.specs.Look.{mapAt, Square, at-margin}
 use Rattle.cycles.specs.Rounds.{FirstEdge}
-use Rattle.cycle_checks.specs.Says.{Says, says-yes, says-no}
+use Rattle.sequences.specs.Says.{Says, says-yes, says-no}
 
 -- ---- what the rule of steps tells of the pixels around a point p
 

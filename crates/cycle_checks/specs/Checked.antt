@@ -32,7 +32,7 @@ use Rattle.cycles.specs.Walking.{cornersFrom}
 use Rattle.cycles.specs.CycleStarts.{CycleStart, CycleMarked, same-map, north-here, its-edges, first-edge, cycle-marked}
 use Rattle.given_outlines.specs.Starts.{codeAt}
 use Rattle.given_outlines.specs.CycleByCycle.{startTold, FromItsStart, first-pixel}
-use Rattle.cycle_checks.specs.Says.{Says, says-no, denied}
+use Rattle.sequences.specs.Says.{Says, says-no, denied}
 use Rattle.cycle_checks.specs.Comparing.{Matches, Compared, code-of-edge}
 
 -- The list is a map of regions, and the table is that of the spread numbers.

@@ -29,7 +29,7 @@ use Rattle.cycles.specs.Points.{EdgeAt, way-at, at-start, not-at-start}
 use Rattle.cycles.specs.Rounds.{FirstEdge, rest, leftAfter, rest-none, Before, set-out, square-here, edge-here, rest-first, onward, all-marked}
 use Rattle.cycles.specs.Straight.{Straight, Gone, RunDone, run-done}
 use Rattle.cycles.specs.Walking.{cornersFrom}
-use Rattle.cycle_checks.specs.Says.{Says, says-yes, says-no, denied}
+use Rattle.sequences.specs.Says.{Says, says-yes, says-no, denied}
 use Rattle.cycle_checks.specs.Runs.{east-inside, RunEdges, run-edges}
 
 -- The given corners are those of the cycle through the edge s of a map, and no eastward edge of the cycle has a pixel with a smaller code on

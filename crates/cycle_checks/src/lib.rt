@@ -10,9 +10,11 @@ ghost use Rattle.cycles.specs.Marks.{mark};
 ghost use Rattle.cycles.specs.Points.{EdgeAt};
 ghost use Rattle.cycles.specs.Rounds.{FirstEdge};
 ghost use Rattle.cycles.specs.Straight.{Gone};
-ghost use Rattle.cycle_checks.specs.Says.{Says};
+ghost use Rattle.sequences.specs.Says.{Says};
 ghost use Rattle.cycle_checks.specs.Comparing.{CornerDue, CornerAgrees, Compared};
 ghost use Rattle.cycle_checks.specs.Checked.{Checkable, CycleChecked};
+
+// The walk has functions of its own, of the same shape as those of `cycles`, which keep one caller so that the compiler inlines them there.
 
 // Marks the pixel of the region r on the right of the edge from (x, y) with the digit d, if the edge goes eastward.
 fn mark_east(map: &mut [u32], side: u32, r: u32, x: u32, y: u32, d: u8)
@@ -153,6 +155,7 @@ pub fn cycle_agrees(n: u32, table: &[u16; 256], owner: u32, points: &[u32], map:
         return false;
     }
     let p = points[0];
+    // y below 512, and a region of the map: else the point or the owner is none of the map's.
     if 512 * 512 <= p {
         return false;
     }

@@ -1,6 +1,6 @@
 -- A dial: a block list, and what is said of it, as equations and as tests that compute.
-use mathlib.Core.Path.{_≡_, refl, ap₂}
-use mathlib.Core.Bool.{Bool, true, false, _&&_, false≢true}
+use mathlib.Core.Path.{_≡_}
+use mathlib.Core.Bool.{Bool, true, _&&_}
 use mathlib.Core.List.{List, [], _∷_}
 use Prim.Native.Nat.{ℕ}
 use lib.Dec.{eqb}
@@ -9,6 +9,7 @@ use Rattle.quadtree.specs.Blocks.{blocks, paint}
 use Rattle.quadtree.specs.Number.{number}
 use Rattle.components.specs.Numbers.{regions, labels}
 use Rattle.sequences.specs.Cases.{and-both}
+use Rattle.sequences.specs.Same.{same, same-exactly}
 use Rattle.grid.specs.Listing.{Cycle, owners, ends, allCorners, pointsAt, cycleCount, cornerCount}
 use Rattle.tracing.specs.Tracing.{outlinesOf}
 use Rattle.chains.specs.ChainCode.{chainOf}
@@ -65,12 +66,6 @@ AllHold (d ∷ ds) = Each d (d .says) × AllHold ds
 
 -- ---- the same, computed
 
-unfoldable pub same : List ℕ → List ℕ → Bool
-same [] [] = true
-same [] (y ∷ ys) = false
-same (x ∷ xs) [] = false
-same (x ∷ xs) (y ∷ ys) = eqb x y && same xs ys
-
 unfoldable pub holds : Dial → Saying → Bool
 unfolding number labels blocks regions dialPixels outlinesOf cycleCount cornerCount owners ends allCorners pointsAt dataOf chainForm cornersOf chainOf same
 holds d (answer k) = eqb (number (d .n) (d .codes) (d .levels) (d .colours)) k
@@ -91,19 +86,10 @@ allHold [] = true
 allHold (d ∷ ds) = each d (d .says) && allHold ds
 
 -- A test that is passed gives the equations.
-pub same-says : (xs ys : List ℕ) → same xs ys ≡ true → xs ≡ ys
-unfolding same
-same-says [] [] h = refl
-same-says [] (y ∷ ys) h = absurd (false≢true h)
-same-says (x ∷ xs) [] h = absurd (false≢true h)
-same-says (x ∷ xs) (y ∷ ys) h =
-    let b = and-both (eqb x y) (same xs ys) h in
-    ap₂ {A = ℕ} {B = List ℕ} (λ z zs. z ∷ zs) (eqb-true x y (b .0)) (same-says xs ys (b .1))
-
 pub holds-says : (d : Dial) (s : Saying) → holds d s ≡ true → SayingHolds d s
 unfolding holds
 holds-says d (answer k) h = eqb-true (number (d .n) (d .codes) (d .levels) (d .colours)) k h
-holds-says d (labelled ls) h = same-says (labels (d .n) (blocks (d .codes) (d .levels) (d .colours))) ls h
+holds-says d (labelled ls) h = same-exactly (labels (d .n) (blocks (d .codes) (d .levels) (d .colours))) ls .0 h
 holds-says d (counted r c k) h =
     let a = and-both (eqb (regions (d .n) (dialPixels d)) r) (eqb (cycleCount (traced d)) c && eqb (cornerCount (traced d)) k) h in
     let b = and-both (eqb (cycleCount (traced d)) c) (eqb (cornerCount (traced d)) k) (a .1) in
@@ -111,13 +97,13 @@ holds-says d (counted r c k) h =
 holds-says d (outlined os es cs) h =
     let a = and-both (same (owners (traced d)) os) (same (ends (traced d)) es && same (allCorners (traced d)) cs) h in
     let b = and-both (same (ends (traced d)) es) (same (allCorners (traced d)) cs) (a .1) in
-    (same-says (owners (traced d)) os (a .0), same-says (ends (traced d)) es (b .0), same-says (allCorners (traced d)) cs (b .1))
-holds-says d (path r bytes) h = same-says (dataOf r (traced d)) bytes h
+    (same-exactly (owners (traced d)) os .0 (a .0), same-exactly (ends (traced d)) es .0 (b .0), same-exactly (allCorners (traced d)) cs .0 (b .1))
+holds-says d (path r bytes) h = same-exactly (dataOf r (traced d)) bytes .0 h
 holds-says d (string start bytes k) h =
     let cs = pointsAt (traced d) k in
     let a = and-both (chainForm start bytes) (same (cornersOf start bytes) cs && same (chainOf cs) bytes) h in
     let b = and-both (same (cornersOf start bytes) cs) (same (chainOf cs) bytes) (a .1) in
-    (a .0, same-says (cornersOf start bytes) cs (b .0), same-says (chainOf cs) bytes (b .1))
+    (a .0, same-exactly (cornersOf start bytes) cs .0 (b .0), same-exactly (chainOf cs) bytes .0 (b .1))
 
 pub each-says : (d : Dial) (ss : List Saying) → each d ss ≡ true → Each d ss
 unfolding each

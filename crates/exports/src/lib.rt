@@ -14,8 +14,7 @@ ghost use Rattle.regions.specs.Promise.{Numbering};
 ghost use Rattle.tracing.specs.Tracing.{lent, Tracing};
 ghost use Rattle.order_check.specs.Promise.{OrderCheck};
 ghost use Rattle.least_order.specs.Promise.{LeastOrdering};
-ghost use Rattle.given_outlines.specs.Given.{outlinesOf};
-ghost use Rattle.restoring.specs.Counts.{givenAs};
+ghost use Rattle.given_outlines.specs.Given.{outlineLists, givenAs};
 ghost use Rattle.restoring.specs.Promise.{Restoring};
 ghost use Rattle.stretches.specs.Stretch.{Place};
 ghost use Rattle.svg.specs.Svg.{Svg};
@@ -326,7 +325,7 @@ pub extern "C" fn nettlestair_blocks_from_outlines(
     work: &mut [u32],
 ) -> Written
     ensures { λ r. ⌜ Restoring n
-        (givenAs regions cycles «corner_count» (outlinesOf (now (owners .entry)) (now (ends .entry)) (now (corners .entry)) (now («region_colours» .entry))))
+        (givenAs regions cycles «corner_count» (outlineLists (now (owners .entry)) (now (ends .entry)) (now (corners .entry)) (now («region_colours» .entry))))
         (listOf (now (codes .entry)) (now (levels .entry)) (now (colours .entry))) (now (work .entry))
         (listOf (now (codes .exit)) (now (levels .exit)) (now (colours .exit))) (now (work .exit))
         (record { number = r .number; count = r .count }) ⌝ }

@@ -12,7 +12,7 @@ use lib.Dec.{eqb, ltb}
 use borrow.Author.Tests.{eq-eqb, ne-eqb, lt-ltb, le-ltb}
 use Rattle.orbits.specs.Members.{In, in-dec, in-none}
 use Rattle.forests.specs.Forest.{ParentsBelow}
-use Rattle.forests.specs.Finding.{member, member-in, member-not}
+use Rattle.orbits.specs.Finding.{member, member-in, member-not}
 use Rattle.forests.specs.Orders.{EachOnce, ChildrenFirst}
 use Rattle.forests.specs.Entries.{Done, done-in, done-later, done-sooner}
 

@@ -12,7 +12,7 @@ use Rattle.sequences.specs.Induction.{strong}
 use Rattle.sequences.specs.Ranges.{range, length-range, range-at}
 use Rattle.orbits.specs.Members.{In, Distinct, in-later, in-cases, in-none, keyed-length, distinct-length}
 use Rattle.forests.specs.Forest.{ParentsBelow}
-use Rattle.forests.specs.Finding.{placeOf, place-first, place-holds}
+use Rattle.orbits.specs.Finding.{placeOf, place-first, place-holds}
 use Rattle.forests.specs.Orders.{EachOnce, ChildrenFirst}
 use Rattle.forests.specs.LeastOrder.{after, orderFrom, leastOrder}
 use Rattle.forests.specs.Greedy.{Ready, greedy-below, greedy-once, greedy-children-first, greedy-least}

@@ -6,7 +6,7 @@ use mathlib.Core.List.{List, [], _∷_, _++_}
 use Prim.Native.Nat.{ℕ, zero, suc}
 use lib.ListN.{getD}
 use lib.Dec.{eqb}
-use Rattle.forests.specs.Finding.{member}
+use Rattle.orbits.specs.Finding.{member}
 
 -- All children of p below k are placed.
 unfoldable pub ready : (ℕ → ℕ) → List ℕ → ℕ → ℕ → Bool

@@ -1,6 +1,5 @@
 -- Forests by parents; orders of their numbers with each child before its parent: the test of one, the least of all, and the loops for both.
 pub mod Forest
-pub mod Finding
 pub mod Orders
 pub mod Falling
 pub mod LeastOrder

@@ -8,7 +8,7 @@ use native.Mathlib.Decide.{ℕ-discrete, decLt}
 use native.Mathlib.Omega.{arith}
 use borrow.Author.Tests.{eq-eqb, ne-eqb}
 use Rattle.orbits.specs.Members.{In, in-dec}
-use Rattle.forests.specs.Finding.{member-in, member-not}
+use Rattle.orbits.specs.Finding.{member-in, member-not}
 use Rattle.forests.specs.LeastOrder.{ready, climb, after, orderFrom}
 use Rattle.forests.specs.Greedy.{Ready}
 

@@ -9,7 +9,7 @@ use native.Mathlib.Omega.{arith}
 use lib.ListN.{length, getD, set, drop, length-set, drop-of-length-le}
 use lib.Seq.{drop-cons, getD-set-same, getD-set-other}
 use Rattle.sequences.specs.Cases.{when, when-yes, when-no, when-zero}
-use Rattle.forests.specs.Finding.{member, member-here, member-later}
+use Rattle.orbits.specs.Finding.{member, member-here, member-later}
 use Rattle.forests.specs.Checking.{along, along-on, along-stop, along-end, isNew, new-when-absent, not-new-when-present, parentLater, later-when-absent, not-later-when-present}
 
 -- Of the first N entries those are 1 whose numbers stand in `before`, the others 0.

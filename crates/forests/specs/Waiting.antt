@@ -13,7 +13,7 @@ use lib.Dec.{eqb}
 use borrow.Author.Tests.{eq-eqb, ne-eqb}
 use Rattle.orbits.specs.Members.{In, in-dec, in-later, in-cases, in-none}
 use Rattle.forests.specs.Forest.{ParentsBelow}
-use Rattle.forests.specs.Finding.{member, member-in, member-not}
+use Rattle.orbits.specs.Finding.{member, member-in, member-not}
 use Rattle.forests.specs.LeastOrder.{ready}
 use Rattle.forests.specs.Greedy.{Ready}
 use Rattle.forests.specs.Ready.{Decided, ready-other, ready-child, ready-missing, ready-says}

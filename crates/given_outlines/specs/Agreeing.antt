@@ -9,13 +9,14 @@ use lib.Seq.{drop-cons, take-add, take-length, drop-drop}
 use Rattle.sequences.specs.Ranges.{range, length-range}
 use Rattle.components.specs.Numbers.{numbers, regions}
 use Rattle.grid.specs.Listing.{Cycle, owners, endsFrom, ends, allCorners, pointsAt, cornerCount}
-use Rattle.grid.specs.Stretches.{beginFrom, length-owners, length-ends, last-end, Stretch, stretch}
+use Rattle.grid.specs.Stretches.{length-owners, length-ends, last-end, stretch}
 use Rattle.links.specs.Image.{imageOutlines}
 use Rattle.stretches.specs.Stretch.{beginOf, endOf, startOf, lengthOf, stretchOf, some-stretch}
-use Rattle.held.specs.Held.{cycleHeld, cyclesFrom, cyclesHeld}
+use Rattle.held.specs.Held.{cycleHeld, cyclesFrom, cyclesHeld, begins-alike}
 use Rattle.given_outlines.specs.Given.{Outlines, HasOutlines, coloured, cyclesIn, cyclesOf}
 
--- An owner, an end and a corner list agree with each other: there is an owner for each end, and the ends rise from 0 to the number of corners.
+-- "Lists .. that don't agree with each other have no such image either": they agree where there is an owner for each end, and the ends rise
+-- from 0 to the number of corners.
 pub record Agreeing (os es cs : List ℕ) : Type 0 where
   pub an-owner-each : length os ≡ length es
   pub rising : (k : ℕ) → k < length es → beginOf es k ≤ getD es k 0
@@ -83,11 +84,6 @@ module _ (f : ℕ → Cycle) (es cs : List ℕ) (count : ℕ) (fits : count ≤ 
       ∙ ap (λ (i : ℕ). take i (drop b cs)) sum
 
 -- ---- the lists of a listing agree
-
-pub begins-alike : (es : List ℕ) (k : ℕ) → beginOf es k ≡ beginFrom 0 es k
-unfolding beginOf beginFrom
-begins-alike es zero = refl
-begins-alike es (suc k) = refl
 
 no-corners : (l : List Cycle) → length l ≡ 0 → length (allCorners l) ≡ 0
 unfolding allCorners

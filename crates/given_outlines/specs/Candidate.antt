@@ -9,21 +9,17 @@ use Rattle.sequences.specs.Ranges.{tabulate}
 use Rattle.interleaving.specs.Codes.{column, row}
 use Rattle.lattice.specs.Directions.{point}
 use Rattle.lattice.specs.Walks.{outline}
+use Rattle.orbits.specs.Finding.{member}
 use Rattle.grid.specs.Listing.{Cycle}
 use Rattle.grid.specs.Sides.{sideAt}
 use Rattle.stretches.specs.Stretch.{startOf, lengthOf, holds}
 use Rattle.given_outlines.specs.Given.{Outlines, Given, upToCounts, coloured, cyclesIn, cyclesOf}
 
--- Whether the edge e stands in a list.
-unfoldable pub stands : ℕ → List ℕ → Bool
-stands e [] = false
-stands e (x ∷ xs) = elim (eqb e x) [ true ↦ true | false ↦ stands e xs ]
-
 -- 1 plus the owner of the last listed outline in which the edge e stands, 0 where it stands in none.
 unfoldable pub ownerOf : List Cycle → ℕ → ℕ
-unfolding first when stands outline
+unfolding first when member outline
 ownerOf [] e = 0
-ownerOf (c ∷ cs) e = first (ownerOf cs e) (when (stands e (outline (c .points))) (suc (c .region)))
+ownerOf (c ∷ cs) e = first (ownerOf cs e) (when (member e (outline (c .points))) (suc (c .region)))
 
 -- 1 plus the region of the pixel (x, y): the owner of its west side, which is walked northward, or else the region of its west neighbour.
 -- It is 0 where no northward edge stands at the pixel or west of it.

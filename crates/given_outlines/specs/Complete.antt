@@ -15,7 +15,8 @@ use Rattle.interleaving.specs.Codes.{code, column, row}
 use Rattle.interleaving.specs.Interleaving.{column-below, row-below}
 use Rattle.lattice.specs.Directions.{tail, digit}
 use Rattle.lattice.specs.Walks.{outline}
-use Rattle.orbits.specs.Members.{In, in-first, in-later, in-cases, in-none}
+use Rattle.orbits.specs.Members.{In}
+use Rattle.orbits.specs.Finding.{member, member-in, member-says}
 use Rattle.components.specs.Numbers.{numbers, regions}
 use Rattle.components.specs.Numbered.{length-numbers, number-below-regions}
 use Rattle.grid.specs.Map.{regionAt, around}
@@ -27,41 +28,15 @@ use Rattle.grid.specs.North.{side-small}
 use Rattle.grid.specs.Sides.{sideAt, beyond, Parts, side-parts, side-is-edge}
 use Rattle.links.specs.Image.{imageOutlines}
 use Rattle.given_outlines.specs.Given.{Outlines, HasOutlines, coloured, cyclesOf, cycles-are-outlines}
-use Rattle.given_outlines.specs.Candidate.{stands, ownerOf, regionFrom, numbersFrom, candidate}
+use Rattle.given_outlines.specs.Candidate.{ownerOf, regionFrom, numbersFrom, candidate}
 
--- ---- the tests in words
+-- ---- the test for an owner in words
 
-pub stands-here : (e x : ℕ) (es : List ℕ) → e ≡ x → stands e (x ∷ es) ≡ true
-unfolding stands
-stands-here e x es h = rw (eq-eqb e x h, stands)
-
-pub stands-later : (e x : ℕ) (es : List ℕ) → e ≢ x → stands e (x ∷ es) ≡ stands e es
-unfolding stands
-stands-later e x es h = rw (ne-eqb e x h, stands)
-
-pub stands-in : (e : ℕ) (es : List ℕ) → stands e es ≡ true → In e es
-unfolding stands
-stands-in e [] h = absurd (false≢true h)
-stands-in e (x ∷ es) h = pick (ℕ-discrete e x) (stands-in e es)
-  where
-    pick : Dec (e ≡ x) → (stands e es ≡ true → In e es) → In e (x ∷ es)
-    pick (yes s) ih = subst (λ y. In e (y ∷ es)) s (in-first e es)
-    pick (no d) ih = in-later e x es (ih (sym (stands-later e x es d) ∙ h))
-
-pub in-stands : (e : ℕ) (es : List ℕ) → In e es → stands e es ≡ true
-in-stands e [] h = in-none e h
-in-stands e (x ∷ es) h = pick (ℕ-discrete e x) (in-cases e x es h) (in-stands e es)
-  where
-    pick : Dec (e ≡ x) → (e ≡ x) ⊎ In e es → (In e es → stands e es ≡ true) → stands e (x ∷ es) ≡ true
-    pick (yes s) w ih = stands-here e x es s
-    pick (no d) (inl s) ih = absurd (d s)
-    pick (no d) (inr i) ih = stands-later e x es d ∙ ih i
-
-owner-first : (c : Cycle) (cs : List Cycle) (e : ℕ) → ownerOf cs e ≡ 0 → stands e (outline (c .points)) ≡ true → ownerOf (c ∷ cs) e ≡ suc (c .region)
+owner-first : (c : Cycle) (cs : List Cycle) (e : ℕ) → ownerOf cs e ≡ 0 → member e (outline (c .points)) ≡ true → ownerOf (c ∷ cs) e ≡ suc (c .region)
 unfolding ownerOf when
 owner-first c cs e a b = first-none (ownerOf cs e) _ a ∙ ap (λ (t : Bool). when t (suc (c .region))) b
 
-owner-neither : (c : Cycle) (cs : List Cycle) (e : ℕ) → ownerOf cs e ≡ 0 → stands e (outline (c .points)) ≡ false → ownerOf (c ∷ cs) e ≡ 0
+owner-neither : (c : Cycle) (cs : List Cycle) (e : ℕ) → ownerOf cs e ≡ 0 → member e (outline (c .points)) ≡ false → ownerOf (c ∷ cs) e ≡ 0
 unfolding ownerOf when
 owner-neither c cs e a b = first-none (ownerOf cs e) _ a ∙ ap (λ (t : Bool). when t (suc (c .region))) b
 
@@ -73,29 +48,29 @@ owner-later c cs e a = first-some (ownerOf cs e) _ a
 pub owner-found : (l : List Cycle) (e v : ℕ) → ownerOf l e ≡ suc v → (k : ℕ) × (k < length l) × (getD (owners l) k 0 ≡ v) × In e (outline (pointsAt l k))
 unfolding ownerOf owners pointsAt
 owner-found [] e v h = absurd (omega arith)
-owner-found (c ∷ cs) e v h = pick (ownerOf cs e) refl (stands e (outline (c .points))) refl (owner-found cs e v)
+owner-found (c ∷ cs) e v h = pick (ownerOf cs e) refl (member e (outline (c .points))) refl (owner-found cs e v)
   where
     more : (k : ℕ) × (k < length cs) × (getD (owners cs) k 0 ≡ v) × In e (outline (pointsAt cs k))
         → (k : ℕ) × (k < length (c ∷ cs)) × (getD (owners (c ∷ cs)) k 0 ≡ v) × In e (outline (pointsAt (c ∷ cs) k))
     more (k, a, b, i) = (suc k, omega arith, b, i)
 
-    pick : (o : ℕ) → ownerOf cs e ≡ o → (t : Bool) → stands e (outline (c .points)) ≡ t
+    pick : (o : ℕ) → ownerOf cs e ≡ o → (t : Bool) → member e (outline (c .points)) ≡ t
         → (ownerOf cs e ≡ suc v → (k : ℕ) × (k < length cs) × (getD (owners cs) k 0 ≡ v) × In e (outline (pointsAt cs k)))
         → (k : ℕ) × (k < length (c ∷ cs)) × (getD (owners (c ∷ cs)) k 0 ≡ v) × In e (outline (pointsAt (c ∷ cs) k))
     pick zero a true b ih =
-        (0, omega arith, omega (arith, sym (owner-first c cs e a b) ∙ h), stands-in e (outline (c .points)) b)
+        (0, omega arith, omega (arith, sym (owner-first c cs e a b) ∙ h), member-says e (outline (c .points)) b)
     pick zero a false b ih = absurd (omega (arith, sym (owner-neither c cs e a b) ∙ h))
     pick (suc w) a t b ih = more (ih (sym (owner-later c cs e (omega arith)) ∙ h))
 
 pub owner-none : (l : List Cycle) (e : ℕ) → ownerOf l e ≡ 0 → (k : ℕ) → k < length l → In e (outline (pointsAt l k)) → ⊥
 unfolding pointsAt
 owner-none [] e h k a i = let z : ⊥ = omega arith in z
-owner-none (c ∷ cs) e h k a i = pick k a i (ownerOf cs e) refl (stands e (outline (c .points))) refl (owner-none cs e)
+owner-none (c ∷ cs) e h k a i = pick k a i (ownerOf cs e) refl (member e (outline (c .points))) refl (owner-none cs e)
   where
-    pick : (k : ℕ) → k < length (c ∷ cs) → In e (outline (pointsAt (c ∷ cs) k)) → (o : ℕ) → ownerOf cs e ≡ o → (t : Bool) → stands e (outline (c .points)) ≡ t
+    pick : (k : ℕ) → k < length (c ∷ cs) → In e (outline (pointsAt (c ∷ cs) k)) → (o : ℕ) → ownerOf cs e ≡ o → (t : Bool) → member e (outline (c .points)) ≡ t
         → (ownerOf cs e ≡ 0 → (j : ℕ) → j < length cs → In e (outline (pointsAt cs j)) → ⊥) → ⊥
     pick k a i zero o true b ih = let z : ⊥ = omega (arith, sym (owner-first c cs e o b) ∙ h) in z
-    pick zero a i zero o false b ih = false≢true (sym b ∙ in-stands e (outline (c .points)) i)
+    pick zero a i zero o false b ih = false≢true (sym b ∙ member-in e (outline (c .points)) i)
     pick (suc k) a i zero o false b ih = ih o k (omega arith) i
     pick k a i (suc w) o t b ih = let z : ⊥ = omega (arith, sym (owner-later c cs e (omega arith)) ∙ h) in z
 

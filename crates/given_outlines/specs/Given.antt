@@ -20,8 +20,8 @@ pub record Outlines : Type 0 where
   pub cornerList : List ℕ
   pub colourList : List ℕ
 
-abbrev pub outlinesOf : List ℕ → List ℕ → List ℕ → List ℕ → Outlines
-outlinesOf os es cs ks = record { ownerList = os; endList = es; cornerList = cs; colourList = ks }
+abbrev pub outlineLists : List ℕ → List ℕ → List ℕ → List ℕ → Outlines
+outlineLists os es cs ks = record { ownerList = os; endList = es; cornerList = cs; colourList = ks }
 
 -- "The counts of regions, cycles and corners come in with the lists".
 pub record Given : Type 0 where
@@ -29,6 +29,9 @@ pub record Given : Type 0 where
   pub cycleTotal : ℕ
   pub cornerTotal : ℕ
   pub lists : Outlines
+
+abbrev pub givenAs : ℕ → ℕ → ℕ → Outlines → Given
+givenAs regions cycles corners o = record { regionTotal = regions; cycleTotal = cycles; cornerTotal = corners; lists = o }
 
 -- The lists up to the counts: "entries beyond them are not looked at".
 abbrev pub upToCounts : Given → Outlines

@@ -1,5 +1,5 @@
 -- The answer: 0 where the candidate has the given outlines, else 18, and then no accepted list has them.
-use mathlib.Core.Path.{_≡_, refl, sym, ap, ap₂, _∙_, subst}
+use mathlib.Core.Path.{_≡_, refl, sym, ap, _∙_, subst}
 use mathlib.Core.Logic.{_↔_}
 use mathlib.Core.Bool.{Bool, true, false, not, _&&_, false≢true}
 use mathlib.Core.List.{List, [], _∷_}
@@ -9,6 +9,7 @@ use lib.ListN.{length}
 use lib.Dec.{eqb}
 use borrow.Author.Tests.{eq-eqb, eqb-true}
 use Rattle.sequences.specs.Cases.{when, and-both, both-and}
+use Rattle.sequences.specs.Same.{same, same-exactly}
 use Rattle.quadtree.specs.Blocks.{paint}
 use Rattle.quadtree.specs.BlockLists.{BlockList, listOf, imageOf}
 use Rattle.quadtree.specs.Fields.{codes, levels, colours, blocks-of-fields}
@@ -20,79 +21,52 @@ use Rattle.grid.specs.Listing.{listing, owners, ends, allCorners, cornerCount}
 use Rattle.lattice.specs.Directions.{point}
 use Rattle.stretches.specs.Stretch.{startOf, lengthOf, holds}
 use Rattle.links.specs.Image.{imageOutlines}
-use Rattle.given_outlines.specs.Given.{Outlines, outlinesOf, Given, upToCounts, HasOutlines, HasGiven, ListHasGiven, coloured, image-size}
+use Rattle.given_outlines.specs.Given.{Outlines, outlineLists, Given, givenAs, upToCounts, HasOutlines, HasGiven, ListHasGiven, coloured, image-size}
 use Rattle.given_outlines.specs.Candidate.{candidate}
 use Rattle.given_outlines.specs.Complete.{image-is-candidate, one-image}
 
--- Two lists are equal.
-unfoldable pub same : List ℕ → List ℕ → Bool
-same [] [] = true
-same [] (y ∷ ys) = false
-same (x ∷ xs) [] = false
-same (x ∷ xs) (y ∷ ys) = eqb x y && same xs ys
-
-pub same-exactly : (xs ys : List ℕ) → (same xs ys ≡ true) ↔ (xs ≡ ys)
-unfolding same
-same-exactly xs ys = (to xs ys, λ e. subst (λ (z : List ℕ). same xs z ≡ true) e (itself xs))
-  where
-    to : (xs ys : List ℕ) → same xs ys ≡ true → xs ≡ ys
-    to [] [] h = refl
-    to [] (y ∷ ys) h = absurd (false≢true h)
-    to (x ∷ xs) [] h = absurd (false≢true h)
-    to (x ∷ xs) (y ∷ ys) h =
-        let b = and-both (eqb x y) (same xs ys) h in
-        ap₂ {A = ℕ} {B = List ℕ} _∷_ (eqb-true x y (b .0)) (to xs ys (b .1))
-
-    itself : (xs : List ℕ) → same xs xs ≡ true
-    itself [] = refl
-    itself (x ∷ xs) = both-and (eqb x x) (same xs xs) (eq-eqb x x refl) (itself xs)
-
--- Whether the image px has these outlines and region colours.
-unfoldable pub judge : ℕ → Outlines → List ℕ → Bool
-unfolding same regions listing owners ends allCorners coloured numbers
-judge n o px =
-    same (owners (imageOutlines n px)) (o .ownerList)
-    && (same (ends (imageOutlines n px)) (o .endList)
-    && (same (allCorners (imageOutlines n px)) (o .cornerList)
-    && (eqb (regions n px) (length (o .colourList))
-    && same px (coloured (o .colourList) (numbers n px)))))
-
--- Whether the counts that are given are its own.
-unfoldable pub judgeCounts : ℕ → Given → List ℕ → Bool
-unfolding regions listing cornerCount
-judgeCounts n g px =
-    eqb (regions n px) (g .regionTotal) && (eqb (length (imageOutlines n px)) (g .cycleTotal) && eqb (cornerCount (imageOutlines n px)) (g .cornerTotal))
+-- ---- whether the image px has outlines and region colours: each field of `HasOutlines`, computed
 
 module _ (n : ℕ) (o : Outlines) (px : List ℕ) where
-  ownersAlike : Bool
+  unfoldable ownersAlike : Bool
+  unfolding same owners listing
   ownersAlike = same (owners (imageOutlines n px)) (o .ownerList)
 
-  endsAlike : Bool
+  unfoldable endsAlike : Bool
+  unfolding same ends listing
   endsAlike = same (ends (imageOutlines n px)) (o .endList)
 
-  cornersAlike : Bool
+  unfoldable cornersAlike : Bool
+  unfolding same allCorners listing
   cornersAlike = same (allCorners (imageOutlines n px)) (o .cornerList)
 
-  oneEach : Bool
-  oneEach = eqb (regions n px) (length (o .colourList))
+  unfoldable aColourEach : Bool
+  unfolding regions
+  aColourEach = eqb (regions n px) (length (o .colourList))
 
-  coloursAlike : Bool
+  unfoldable coloursAlike : Bool
+  unfolding same coloured numbers
   coloursAlike = same px (coloured (o .colourList) (numbers n px))
 
-  pub judge-exactly : (judge n o px ≡ true) ↔ HasOutlines n o px
-  unfolding judge ownersAlike endsAlike cornersAlike oneEach coloursAlike
-  judge-exactly = (
+  unfoldable pub hasOutlines : Bool
+  unfolding ownersAlike endsAlike cornersAlike aColourEach coloursAlike
+  hasOutlines = ownersAlike && (endsAlike && (cornersAlike && (aColourEach && coloursAlike)))
+
+  pub outlines-exactly : (hasOutlines ≡ true) ↔ HasOutlines n o px
+  unfolding hasOutlines
+  outlines-exactly = (
     to,
     λ h. both-and ownersAlike _ (same-exactly _ _ .1 (h .owners-are)) (both-and endsAlike _ (same-exactly _ _ .1 (h .ends-are))
-        (both-and cornersAlike _ (same-exactly _ _ .1 (h .corners-are)) (both-and oneEach coloursAlike (eq-eqb _ _ (h .a-colour-each)) (same-exactly _ _ .1 (h .colours-are))))),
+        (both-and cornersAlike _ (same-exactly _ _ .1 (h .corners-are))
+        (both-and aColourEach coloursAlike (eq-eqb _ _ (h .a-colour-each)) (same-exactly _ _ .1 (h .colours-are))))),
   )
     where
-      to : judge n o px ≡ true → HasOutlines n o px
+      to : hasOutlines ≡ true → HasOutlines n o px
       to h =
-          let a = and-both ownersAlike (endsAlike && (cornersAlike && (oneEach && coloursAlike))) h in
-          let b = and-both endsAlike (cornersAlike && (oneEach && coloursAlike)) (a .1) in
-          let c = and-both cornersAlike (oneEach && coloursAlike) (b .1) in
-          let d = and-both oneEach coloursAlike (c .1) in
+          let a = and-both ownersAlike (endsAlike && (cornersAlike && (aColourEach && coloursAlike))) h in
+          let b = and-both endsAlike (cornersAlike && (aColourEach && coloursAlike)) (a .1) in
+          let c = and-both cornersAlike (aColourEach && coloursAlike) (b .1) in
+          let d = and-both aColourEach coloursAlike (c .1) in
           record {
             owners-are = same-exactly _ _ .0 (a .0);
             ends-are = same-exactly _ _ .0 (b .0);
@@ -101,35 +75,43 @@ module _ (n : ℕ) (o : Outlines) (px : List ℕ) where
             colours-are = same-exactly _ _ .0 (d .1);
           }
 
+-- ---- the same with the counts that are given
+
 module _ (n : ℕ) (g : Given) (px : List ℕ) where
-  regionsCounted : Bool
+  unfoldable regionsCounted : Bool
+  unfolding regions
   regionsCounted = eqb (regions n px) (g .regionTotal)
 
-  cyclesCounted : Bool
+  unfoldable cyclesCounted : Bool
+  unfolding listing
   cyclesCounted = eqb (length (imageOutlines n px)) (g .cycleTotal)
 
-  cornersCounted : Bool
+  unfoldable cornersCounted : Bool
+  unfolding cornerCount listing
   cornersCounted = eqb (cornerCount (imageOutlines n px)) (g .cornerTotal)
 
-  pub given-exactly : (judgeCounts n g px && judge n (upToCounts g) px ≡ true) ↔ HasGiven n g px
-  unfolding judgeCounts regionsCounted cyclesCounted cornersCounted
+  unfoldable pub hasGiven : Bool
+  unfolding regionsCounted cyclesCounted cornersCounted hasOutlines
+  hasGiven = regionsCounted && (cyclesCounted && (cornersCounted && hasOutlines n (upToCounts g) px))
+
+  pub given-exactly : (hasGiven ≡ true) ↔ HasGiven n g px
+  unfolding hasGiven
   given-exactly = (
     to,
-    λ h. both-and (judgeCounts n g px) (judge n (upToCounts g) px)
-        (both-and regionsCounted (cyclesCounted && cornersCounted) (eq-eqb _ _ (h .region-count)) (both-and cyclesCounted cornersCounted (eq-eqb _ _ (h .cycle-count)) (eq-eqb _ _ (h .corner-count))))
-        (judge-exactly n (upToCounts g) px .1 (h .up-to-counts)),
+    λ h. both-and regionsCounted _ (eq-eqb _ _ (h .region-count)) (both-and cyclesCounted _ (eq-eqb _ _ (h .cycle-count))
+        (both-and cornersCounted _ (eq-eqb _ _ (h .corner-count)) (outlines-exactly n (upToCounts g) px .1 (h .up-to-counts)))),
   )
     where
-      to : judgeCounts n g px && judge n (upToCounts g) px ≡ true → HasGiven n g px
+      to : hasGiven ≡ true → HasGiven n g px
       to h =
-          let a = and-both (judgeCounts n g px) (judge n (upToCounts g) px) h in
-          let b = and-both regionsCounted (cyclesCounted && cornersCounted) (a .0) in
-          let c = and-both cyclesCounted cornersCounted (b .1) in
+          let a = and-both regionsCounted (cyclesCounted && (cornersCounted && hasOutlines n (upToCounts g) px)) h in
+          let b = and-both cyclesCounted (cornersCounted && hasOutlines n (upToCounts g) px) (a .1) in
+          let c = and-both cornersCounted (hasOutlines n (upToCounts g) px) (b .1) in
           record {
-            region-count = eqb-true _ _ (b .0);
-            cycle-count = eqb-true _ _ (c .0);
-            corner-count = eqb-true _ _ (c .1);
-            up-to-counts = judge-exactly n (upToCounts g) px .0 (a .1);
+            region-count = eqb-true _ _ (a .0);
+            cycle-count = eqb-true _ _ (b .0);
+            corner-count = eqb-true _ _ (c .0);
+            up-to-counts = outlines-exactly n (upToCounts g) px .0 (c .1);
           }
 
 -- The candidate of what is given.
@@ -138,18 +120,13 @@ candidateOf n g = candidate n (upToCounts g)
 
 -- The number answered past causes 1 and 8: 0 where the candidate has what is given, else "18 (no such image)".
 unfoldable pub outlinesNumber : ℕ → Given → ℕ
-unfolding judge judgeCounts candidate when
-outlinesNumber n g = when (not (judgeCounts n g (candidateOf n g) && judge n (upToCounts g) (candidateOf n g))) 18
+unfolding hasGiven candidate when
+outlinesNumber n g = when (not (hasGiven n g (candidateOf n g))) 18
 
 -- Dial 1 with the colour 7 is given back; with an owner that is no region, with an end that breaks off, and with a colour too few, it is not.
 dial1 : ℕ → ℕ → List ℕ → Given
 unfolding point
-dial1 owner end colours = record {
-  regionTotal = 1;
-  cycleTotal = 1;
-  cornerTotal = 4;
-  lists = outlinesOf (owner ∷ []) (end ∷ []) (point 0 0 ∷ point 1 0 ∷ point 1 1 ∷ point 0 1 ∷ []) colours;
-}
+dial1 owner end regionColours = givenAs 1 1 4 (outlineLists (owner ∷ []) (end ∷ []) (point 0 0 ∷ point 1 0 ∷ point 1 1 ∷ point 0 1 ∷ []) regionColours)
 
 dial-1-given-back : (candidateOf 0 (dial1 0 4 (7 ∷ [])) ≡ 7 ∷ []) × (outlinesNumber 0 (dial1 0 4 (7 ∷ [])) ≡ 0)
 unfolding outlinesNumber dial1 startOf lengthOf holds
@@ -159,6 +136,22 @@ dial-1-refused : (outlinesNumber 0 (dial1 1 4 (7 ∷ [])) ≡ 18) × (outlinesNu
 unfolding outlinesNumber dial1 startOf lengthOf holds
 dial-1-refused = (refl, refl, refl)
 
+-- Dial 5, whose north and south rows are regions, is given back. With one colour for both, with its owners exchanged, with a region more than
+-- it has, and with a corner more, there is no such image.
+dial5 : ℕ → ℕ → List ℕ → List ℕ → Given
+unfolding point
+dial5 regionCount corners owners regionColours = givenAs regionCount 2 corners (outlineLists owners (4 ∷ 8 ∷ [])
+    (point 0 0 ∷ point 2 0 ∷ point 2 1 ∷ point 0 1 ∷ point 0 1 ∷ point 2 1 ∷ point 2 2 ∷ point 0 2 ∷ point 0 0 ∷ []) regionColours)
+
+dial-5-given-back : (candidateOf 1 (dial5 2 8 (0 ∷ 1 ∷ []) (1 ∷ 2 ∷ 3 ∷ [])) ≡ 1 ∷ 1 ∷ 2 ∷ 2 ∷ []) × (outlinesNumber 1 (dial5 2 8 (0 ∷ 1 ∷ []) (1 ∷ 2 ∷ 3 ∷ [])) ≡ 0)
+unfolding outlinesNumber dial5 startOf lengthOf holds
+dial-5-given-back = (refl, refl)
+
+dial-5-refused : (outlinesNumber 1 (dial5 2 8 (0 ∷ 1 ∷ []) (1 ∷ 1 ∷ 3 ∷ [])) ≡ 18) × (outlinesNumber 1 (dial5 2 8 (1 ∷ 0 ∷ []) (1 ∷ 2 ∷ 3 ∷ [])) ≡ 18)
+    × (outlinesNumber 1 (dial5 3 8 (0 ∷ 1 ∷ []) (1 ∷ 2 ∷ 3 ∷ [])) ≡ 18) × (outlinesNumber 1 (dial5 2 9 (0 ∷ 1 ∷ []) (1 ∷ 2 ∷ 3 ∷ [])) ≡ 18)
+unfolding outlinesNumber dial5 startOf lengthOf holds
+dial-5-refused = (refl, refl, refl, refl)
+
 -- The answer is one of two, and says whether the candidate has what is given.
 pub data Verdict (n : ℕ) (g : Given) : Type 0 where
   given-back : outlinesNumber n g ≡ 0 → HasGiven n g (candidateOf n g) → Verdict n g
@@ -166,9 +159,9 @@ pub data Verdict (n : ℕ) (g : Given) : Type 0 where
 
 pub verdict : (n : ℕ) (g : Given) → Verdict n g
 unfolding outlinesNumber
-verdict n g = pick (judgeCounts n g (candidateOf n g) && judge n (upToCounts g) (candidateOf n g)) refl
+verdict n g = pick (hasGiven n g (candidateOf n g)) refl
   where
-    pick : (t : Bool) → judgeCounts n g (candidateOf n g) && judge n (upToCounts g) (candidateOf n g) ≡ t → Verdict n g
+    pick : (t : Bool) → hasGiven n g (candidateOf n g) ≡ t → Verdict n g
     pick true e = given-back (ap (λ (t : Bool). when (not t) 18) e) (given-exactly n g (candidateOf n g) .0 e)
     pick false e = no-such-image (ap (λ (t : Bool). when (not t) 18) e) (λ h. false≢true (sym e ∙ given-exactly n g (candidateOf n g) .1 h))
 

@@ -3,9 +3,10 @@ pub mod Given
 pub mod Candidate
 pub mod Complete
 pub mod Judged
+pub mod Counts
+pub mod Own
 -- What a check in passes asks: the lists agree, the numbers are region numbers, the cycles are the listing.
 pub mod Agreeing
-pub mod InOrder
 pub mod Starts
 pub mod Checked
 pub mod Needed

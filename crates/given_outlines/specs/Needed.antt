@@ -1,23 +1,16 @@
 -- What the outlines of every image have: where one of these fails there is no such image, and a check may refuse at once.
-use mathlib.Core.Path.{_≡_, refl, sym, ap, ap₂, _∙_}
-use mathlib.Core.List.{List, [], _∷_, map, flatMap}
-use Prim.Native.Nat.{ℕ, suc, _+_, _*_, _^_, _≤_, _<_}
+use mathlib.Core.Path.{_≡_, sym}
+use mathlib.Core.List.{List}
+use Prim.Native.Nat.{ℕ, _*_, _^_, _≤_, _<_}
 use native.Mathlib.Omega.{arith}
-use lib.ListN.{length, getD, length-append}
-use Rattle.interleaving.specs.Codes.{code}
-use Rattle.interleaving.specs.Interleaving.{code-below}
-use Rattle.lattice.specs.Walks.{outline}
-use Rattle.orbits.specs.Members.{In, in-first, in-later}
+use lib.ListN.{length, getD}
 use Rattle.components.specs.Numbers.{numbers, regions}
 use Rattle.components.specs.Numbered.{number-below-regions, regions-at-most-pixels}
 use Rattle.grid.specs.Map.{regionAt}
 use Rattle.grid.specs.Margins.{region-inside}
-use Rattle.grid.specs.Cycles.{cycle}
-use Rattle.grid.specs.Listing.{Cycle, startCodes, cycleAt, listing, owners, cycleCount, cornerCount}
-use Rattle.grid.specs.Starting.{StartAt}
-use Rattle.grid.specs.Closing.{sides-of-corners}
-use Rattle.grid.specs.Listed.{SidesOnce, listing-length, owner-at, start-at, listed-start, each-side-once}
-use Rattle.grid.specs.Bounds.{all-edges-fit, cycles-fit, corner-count-fits}
+use Rattle.grid.specs.Listing.{Cycle, startCodes, owners, cycleCount, cornerCount}
+use Rattle.grid.specs.Listed.{SidesOnce, listing-length, owner-at, start-at, each-side-once}
+use Rattle.grid.specs.Bounds.{cycles-fit, corner-count-fits}
 use Rattle.links.specs.Image.{imageOutlines}
 use Rattle.given_outlines.specs.Given.{Outlines, HasOutlines, cyclesOf, cycles-are-outlines}
 use Rattle.given_outlines.specs.Candidate.{regionFrom}
@@ -30,20 +23,6 @@ NoImage n count l = (px : List ℕ) → regions n px ≡ count → imageOutlines
 -- Then none has the outlines that hold them.
 pub none-has : {n : ℕ} {o : Outlines} → NoImage n (length (o .colourList)) (cyclesOf o) → (px : List ℕ) → HasOutlines n o px → ⊥
 none-has none px has = none px (has .a-colour-each) (sym (cycles-are-outlines has))
-
--- How many unit sides stand in the outlines of a list.
-unfoldable pub unitSides : List Cycle → ℕ
-unfolding outline
-unitSides [] = 0
-unitSides (c ∷ cs) = length (outline (c .points)) + unitSides cs
-
-sides-of-starts : (n : ℕ) (nums : List ℕ) → n ≤ 8 → (cs : List ℕ) → ((c : ℕ) → In c cs → StartAt n nums c)
-    → unitSides (map (cycleAt n nums) cs) ≡ length (flatMap (cycle n nums) cs)
-unfolding unitSides cycleAt flatMap
-sides-of-starts n nums small [] f = refl
-sides-of-starts n nums small (c ∷ cs) f =
-    ap₂ _+_ (ap length (sides-of-corners n nums small c (f c (in-first c cs)))) (sides-of-starts n nums small cs (λ d i. f d (in-later d c cs i)))
-    ∙ sym (length-append (cycle n nums c) (flatMap (cycle n nums) cs))
 
 module _ {n : ℕ} (px : List ℕ) (small : n ≤ 8) where
   abbrev l : List Cycle
@@ -59,15 +38,6 @@ module _ {n : ℕ} (px : List ℕ) (small : n ≤ 8) where
 
   pub few-corners : cornerCount (imageOutlines n px) ≤ 4 * 4 ^ n
   few-corners = corner-count-fits n (numbers n px) (regions n px) small
-
-  pub few-sides : unitSides (imageOutlines n px) ≤ 4 * 4 ^ n
-  unfolding listing
-  few-sides =
-      omega (
-        arith,
-        sides-of-starts n (numbers n px) small (startCodes n (numbers n px) (regions n px)) (listed-start n (numbers n px) (regions n px) small),
-        all-edges-fit n (numbers n px) small (regions n px),
-      )
 
   -- Owners are region numbers.
   pub owner-below : (k : ℕ) → k < length (imageOutlines n px) → getD (owners (imageOutlines n px)) k 0 < regions n px

@@ -19,7 +19,7 @@ use Rattle.grid.specs.North.{corner-x, corner-y, north-tail}
 use Rattle.grid.specs.Starting.{StartAt, Started, start-says, says-start, some-start, one-start}
 use Rattle.grid.specs.Closing.{others, cycle-first, corners-from-start}
 use Rattle.grid.specs.Keeping.{Before, in-start-codes, in-order}
-use Rattle.given_outlines.specs.InOrder.{same-members-same-list, ordered-by-neighbours}
+use Rattle.orbits.specs.InOrder.{same-members-same-list, ordered-by-neighbours}
 
 -- The pixel southeast of a point: the start pixel of the cycle whose first corner it is.
 unfoldable pub codeAt : ℕ → ℕ → ℕ

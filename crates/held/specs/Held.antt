@@ -55,7 +55,8 @@ agreeing os es cs count k (c ∷ l) same parts =
     (λ i h. ap (stretchOf cs es count) (next i) ∙ parts (suc i) (omega arith)) in
     λ i. record { region = here i; points = part i } ∷ rest i
 
-begins-alike : (es : List ℕ) (k : ℕ) → beginOf es k ≡ beginFrom 0 es k
+-- Where cycle k begins, as the listing and as the library has it.
+pub begins-alike : (es : List ℕ) (k : ℕ) → beginOf es k ≡ beginFrom 0 es k
 unfolding beginOf beginFrom
 begins-alike es zero = refl
 begins-alike es (suc k) = refl

@@ -19,7 +19,7 @@ use Rattle.components.specs.Numbers.{numbers, regions, northOf}
 use Rattle.components.specs.Numbered.{number-below-regions, regions-at-most-pixels}
 use Rattle.steps.specs.Look.{markBit}
 use Rattle.cycles.specs.Mapped.{numsOf, Marked, entry-of-pixel}
-use Rattle.forests.specs.Finding.{placeOf}
+use Rattle.orbits.specs.Finding.{placeOf}
 use Rattle.surrounding.specs.SouthSides.{southSide}
 use Rattle.surrounding.specs.Parents.{firstCycle, parentOf, least-of, Northern, Parent, top, shared, own, parent-cases}
 use Rattle.surrounding.specs.FirstCycles.{first-cycle-of-own-region}

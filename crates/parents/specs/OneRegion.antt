@@ -22,7 +22,7 @@ use Rattle.components.specs.Numbered.{number-below-regions, regions-at-most-pix
 use Rattle.steps.specs.Look.{markBit}
 use Rattle.cycles.specs.Mapped.{numsOf, Mapped, Marked, same-nums}
 use Rattle.cycles.specs.CycleStarts.{CycleStart, CycleMarked}
-use Rattle.forests.specs.Finding.{placeOf}
+use Rattle.orbits.specs.Finding.{placeOf}
 use Rattle.surrounding.specs.SouthSides.{southSide}
 use Rattle.surrounding.specs.Parents.{firstCycle, parentOf}
 use Rattle.parents.specs.RegionsSettled.{InFirstCycle, RegionsSettled, LeastAt, RegionNext, RegionSettled}

@@ -14,7 +14,7 @@ use Rattle.unions.specs.RootNumbers.{numbersBelow, length-numbersBelow}
 use Rattle.location.specs.Levels.{pixelsOf}
 use Rattle.components.specs.Numbers.{numbers, regions}
 use Rattle.cycles.specs.Mapped.{numsOf}
-use Rattle.pixel_numbers.specs.Promise.{imageOf, Comparable, NumbersCompared}
+use Rattle.pixel_numbers.specs.Promise.{mapImage, Comparable, NumbersCompared}
 use Rattle.pixel_numbers.specs.Parents.{parentsOf, OnlyParents, nothing-changed, changed-twice, nums-kept, image-kept, still-comparable, length-parents, Returned, part-inside, lent, back}
 use Rattle.pixel_numbers.specs.Pixels.{roots-numbered, AllNext, AllJoined}
 use Rattle.pixel_numbers.specs.Comparing.{Numbered}
@@ -23,8 +23,8 @@ use borrow.Rule.Slice.PartMut.{midOf, putMid}
 -- The region numbers stand in the place of the parents, and `count` is how many regions there are.
 record Counted (n : ℕ) (colours work work′ : List ℕ) (count : ℕ) : Type 0 where
   only : OnlyParents n work work′
-  listed : parentsOf n work′ ≡ numbers n (imageOf n colours work)
-  total : count ≡ regions n (imageOf n colours work)
+  listed : parentsOf n work′ ≡ numbers n (mapImage n colours work)
+  total : count ≡ regions n (mapImage n colours work)
 
 -- The parents are lent twice, as `&mut work[whole..2 * whole]`: to be made each its own, and to be numbered.
 module _ {n whole : ℕ} {colours work : List ℕ} (g : Comparable n colours work) (all : whole ≡ pixelsOf n) where
@@ -60,7 +60,7 @@ module _ {n whole : ℕ} {colours work : List ℕ} (g : Comparable n colours wor
           (listed : q ≡ numbersBelow (root (midOf whole (2 * whole - whole) work′)) (length (midOf whole (2 * whole - whole) work′))) where
         counted : Counted n colours work (putMid whole (2 * whole - whole) work′ q) count
         counted =
-            let px : imageOf n colours (putMid whole (2 * whole - whole) work p) ≡ imageOf n colours work = image-kept (own-parents .only) colours in
+            let px : mapImage n colours (putMid whole (2 * whole - whole) work p) ≡ mapImage n colours work = image-kept (own-parents .only) colours in
             let f : root (midOf whole (2 * whole - whole) work′) ≡ root (parentsOf n work′) = ap root (lent (g .small) all work′) in
             let e : q ≡ numbersBelow (root (parentsOf n work′)) (4 ^ n) = listed ∙ ap₂ numbersBelow f (length-lent kept) in
             let r = back (g .small) all work′ (still-comparable kept g .room) (ap length e ∙ length-numbersBelow (root (parentsOf n work′)) (4 ^ n)) in

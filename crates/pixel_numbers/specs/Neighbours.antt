@@ -21,7 +21,7 @@ use Rattle.components.specs.Spans.{joinIfAlike, alike-forest, unlike-forest}
 use Rattle.steps.specs.Look.{markBit}
 use Rattle.cycles.specs.Mapped.{numsOf, length-nums, entry-of-pixel}
 use Rattle.given_outlines.specs.Given.{coloured-at}
-use Rattle.pixel_numbers.specs.Promise.{imageOf, Comparable}
+use Rattle.pixel_numbers.specs.Promise.{mapImage, Comparable}
 use Rattle.pixel_numbers.specs.Parents.{parentsOf, OnlyParents, nothing-changed, changed-twice, image-kept, still-comparable, length-parents, lent, back}
 use borrow.Rule.Slice.PartMut.{midOf, putMid}
 
@@ -38,7 +38,7 @@ pub record Entry (n : ℕ) (colours work : List ℕ) (x y w : ℕ) : Type 0 wher
   pub some : 0 < getD work (y * w + x) 0
   pub known : getD work (y * w + x) 0 ≤ length colours
   pub few : length colours ≤ 65536
-  pub colour : getD colours (getD work (y * w + x) 0 - 1) 0 ≡ getD (imageOf n colours work) (code n x y) 0
+  pub colour : getD colours (getD work (y * w + x) 0 - 1) 0 ≡ getD (mapImage n colours work) (code n x y) 0
 
 pub entry : {n : ℕ} {colours work : List ℕ} {x y w : ℕ} → PixelAt n colours work x y → w ≡ sideOf n → Entry n colours work x y w
 entry {n} {colours} {work} {x} {y} {w} at side =
@@ -68,12 +68,12 @@ pub record PairNext (n : ℕ) (table colours work : List ℕ) (c own x y : ℕ) 
   pub table-is : table ≡ spreads
   pub low : Low (parentsOf n work)
   pub inside : c < 4 ^ n
-  pub colour : own ≡ getD (imageOf n colours work) c 0
+  pub colour : own ≡ getD (mapImage n colours work) c 0
 
 -- The pixels c and d are joined if they have one colour.
 pub record PairJoined (n : ℕ) (colours work : List ℕ) (c d : ℕ) (work′ : List ℕ) : Type 0 where
   pub only : OnlyParents n work work′
-  pub forest : Forest (parentsOf n work) (joinIfAlike (imageOf n colours work) (root (parentsOf n work)) c d) (parentsOf n work′)
+  pub forest : Forest (parentsOf n work) (joinIfAlike (mapImage n colours work) (root (parentsOf n work)) c d) (parentsOf n work′)
 
 module _ {n : ℕ} {table colours work : List ℕ} {c own x y : ℕ} (g : PairNext n table colours work c own x y) where
   size : n ≤ 8
@@ -88,10 +88,10 @@ module _ {n : ℕ} {table colours work : List ℕ} {c own x y : ℕ} (g : PairNe
   code-is : code 8 x y ≡ code n x y
   code-is = code-wider n 8 x y size (g .at .x-inside) (g .at .y-inside)
 
-  pub unlike : {v : ℕ} → v ≡ getD (imageOf n colours work) (code n x y) 0 → v ≢ own → PairJoined n colours work c (code n x y) work
+  pub unlike : {v : ℕ} → v ≡ getD (mapImage n colours work) (code n x y) 0 → v ≢ own → PairJoined n colours work c (code n x y) work
   unlike read differs = record {
     only = nothing-changed n work;
-    forest = unlike-forest (imageOf n colours work) c (code n x y) (λ e. differs (read ∙ sym (g .colour ∙ e))) (g .low);
+    forest = unlike-forest (mapImage n colours work) c (code n x y) (λ e. differs (read ∙ sym (g .colour ∙ e))) (g .low);
   }
 
   -- The parents are lent as `&mut work[whole..2 * whole]`, and d is the code that the table gives.
@@ -104,7 +104,7 @@ module _ {n : ℕ} {table colours work : List ℕ} {c own x y : ℕ} (g : PairNe
         let long : length parents ≡ 4 ^ n = ap length (lent size all work) ∙ length-parents n work (g .at .given .room) in
         (omega (arith, g .inside), omega (arith, by-table, code-is, code-below n x y), subst Low (sym (lent size all work)) (g .low))
 
-    pub alike : {v : ℕ} {p : List ℕ} → v ≡ getD (imageOf n colours work) (code n x y) 0 → v ≡ own → Forest parents (joinAt (root parents) (pairOf c d)) p
+    pub alike : {v : ℕ} {p : List ℕ} → v ≡ getD (mapImage n colours work) (code n x y) 0 → v ≡ own → Forest parents (joinAt (root parents) (pairOf c d)) p
         → PairJoined n colours work c (code n x y) (putMid whole (2 * whole - whole) work p)
     alike {v} {p} read equal f =
         let j : Forest (parentsOf n work) (joinAt (root (parentsOf n work)) (pairOf c (code n x y))) p =
@@ -113,8 +113,8 @@ module _ {n : ℕ} {table colours work : List ℕ} {c own x y : ℕ} (g : PairNe
         record {
           only = r .only;
           forest =
-              subst (Forest (parentsOf n work) (joinIfAlike (imageOf n colours work) (root (parentsOf n work)) c (code n x y))) (sym (r .parents))
-              (alike-forest (imageOf n colours work) c (code n x y) (sym (g .colour) ∙ sym equal ∙ read) j);
+              subst (Forest (parentsOf n work) (joinIfAlike (mapImage n colours work) (root (parentsOf n work)) c (code n x y))) (sym (r .parents))
+              (alike-forest (mapImage n colours work) c (code n x y) (sym (g .colour) ∙ sym equal ∙ read) j);
         }
 
 -- The pixel c comes next.
@@ -129,8 +129,8 @@ pub record PixelNext (n : ℕ) (table colours work : List ℕ) (c : ℕ) : Type 
 pub record PixelJoined (n : ℕ) (colours work : List ℕ) (c : ℕ) (work′ : List ℕ) : Type 0 where
   pub only : OnlyParents n work work′
   pub between : List ℕ
-  pub north : Forest (parentsOf n work) (joinIfAlike (imageOf n colours work) (root (parentsOf n work)) c (northOf n c)) between
-  pub west : Forest between (joinIfAlike (imageOf n colours work) (root between) c (westOf n c)) (parentsOf n work′)
+  pub north : Forest (parentsOf n work) (joinIfAlike (mapImage n colours work) (root (parentsOf n work)) c (northOf n c)) between
+  pub west : Forest between (joinIfAlike (mapImage n colours work) (root between) c (westOf n c)) (parentsOf n work′)
 
 module _ {n : ℕ} {table colours work : List ℕ} {c x y : ℕ} (g : PixelNext n table colours work c) (in-column : x ≡ column 8 c) (in-row : y ≡ row 8 c) where
   column-is : x ≡ column n c
@@ -142,9 +142,9 @@ module _ {n : ℕ} {table colours work : List ℕ} {c x y : ℕ} (g : PixelNext 
   pub own-pixel : PixelAt n colours work x y
   own-pixel = record { given = g .given; x-inside = omega (arith, column-is, column-below n c); y-inside = omega (arith, row-is, row-below n c) }
 
-  module _ {own : ℕ} (colour : own ≡ getD (imageOf n colours work) (code n x y) 0) where
-    own-colour : own ≡ getD (imageOf n colours work) c 0
-    own-colour = colour ∙ ap (λ (d : ℕ). getD (imageOf n colours work) d 0) (ap₂ (code n) column-is row-is ∙ code-of-coordinates n c (g .inside))
+  module _ {own : ℕ} (colour : own ≡ getD (mapImage n colours work) (code n x y) 0) where
+    own-colour : own ≡ getD (mapImage n colours work) c 0
+    own-colour = colour ∙ ap (λ (d : ℕ). getD (mapImage n colours work) d 0) (ap₂ (code n) column-is row-is ∙ code-of-coordinates n c (g .inside))
 
     pub north-next : {v : ℕ} → v ≡ y - 1 → PairNext n table colours work c own x v
     north-next e = record {
@@ -178,7 +178,7 @@ module _ {n : ℕ} {table colours work : List ℕ} {c x y : ℕ} (g : PixelNext 
             only = changed-twice (first .only) (second .only);
             between = parentsOf n work₁;
             north =
-                subst (λ (k : ℕ). Forest (parentsOf n work) (joinIfAlike (imageOf n colours work) (root (parentsOf n work)) c k) (parentsOf n work₁)) north
+                subst (λ (k : ℕ). Forest (parentsOf n work) (joinIfAlike (mapImage n colours work) (root (parentsOf n work)) c k) (parentsOf n work₁)) north
                 (first .forest);
             west =
                 subst₂ (λ (px : List ℕ) (k : ℕ). Forest (parentsOf n work₁) (joinIfAlike px (root (parentsOf n work₁)) c k) (parentsOf n work₂))

@@ -10,7 +10,7 @@ use Rattle.location.specs.Levels.{pixelsOf, pixels-are-power}
 use Rattle.steps.specs.Look.{markBit}
 use Rattle.cycles.specs.Mapped.{numsOf, same-nums}
 use Rattle.given_outlines.specs.Given.{coloured}
-use Rattle.pixel_numbers.specs.Promise.{imageOf, Comparable}
+use Rattle.pixel_numbers.specs.Promise.{mapImage, Comparable}
 use borrow.Rule.Slice.PartMut.{midOf, putMid, postOf, same-len-mid, mid-len, take-put, drop-put}
 
 -- The entries after the map, one a pixel.
@@ -38,7 +38,7 @@ module _ {n : ℕ} {work work′ : List ℕ} (k : OnlyParents n work work′) wh
   pub nums-kept : numsOf n work′ ≡ numsOf n work
   nums-kept = same-nums n work work′ (λ j h. ap (λ (v : ℕ). v % markBit) (k .map-kept j h))
 
-  pub image-kept : (colours : List ℕ) → imageOf n colours work′ ≡ imageOf n colours work
+  pub image-kept : (colours : List ℕ) → mapImage n colours work′ ≡ mapImage n colours work
   image-kept colours = ap (coloured colours) nums-kept
 
   pub still-comparable : {colours : List ℕ} → Comparable n colours work → Comparable n colours work′

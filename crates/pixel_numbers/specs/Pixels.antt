@@ -20,7 +20,7 @@ use Rattle.interleaving.specs.Spreads.{spreads}
 use Rattle.components.specs.Numbers.{westOf, northOf, pairIfAlike, alikePairs, numbers, regions}
 use Rattle.components.specs.Numbered.{length-numbers, number-at, regions-counted}
 use Rattle.components.specs.Spans.{joinIfAlike, alike-joined, unlike-kept}
-use Rattle.pixel_numbers.specs.Promise.{imageOf, Comparable}
+use Rattle.pixel_numbers.specs.Promise.{mapImage, Comparable}
 use Rattle.pixel_numbers.specs.Parents.{parentsOf, OnlyParents, nothing-changed, changed-twice, image-kept, still-comparable}
 use Rattle.pixel_numbers.specs.Neighbours.{PixelNext, PixelJoined}
 
@@ -78,7 +78,7 @@ pub record AllNext (n : ℕ) (colours work : List ℕ) : Type 0 where
 -- The pass up to the code c.
 pub record Passed (n : ℕ) (colours work work′ : List ℕ) (c : ℕ) : Type 0 where
   pub only : OnlyParents n work work′
-  pub joined : JoinedBelow n (imageOf n colours work) (parentsOf n work′) c
+  pub joined : JoinedBelow n (mapImage n colours work) (parentsOf n work′) c
 
 -- After it all pixels are joined.
 abbrev pub AllJoined : ℕ → List ℕ → List ℕ → List ℕ → Type 0
@@ -88,7 +88,7 @@ module _ {n : ℕ} {colours work : List ℕ} (g : AllNext n colours work) where
   pub begin : Passed n colours work work 0
   begin = record {
     only = nothing-changed n work;
-    joined = subst (λ (p : List ℕ). JoinedBelow n (imageOf n colours work) p 0) (sym (g .alone)) none-joined;
+    joined = subst (λ (p : List ℕ). JoinedBelow n (mapImage n colours work) p 0) (sym (g .alone)) none-joined;
   }
 
   module _ {work₁ : List ℕ} {c : ℕ} (s : Passed n colours work work₁ c) where
@@ -97,7 +97,7 @@ module _ {n : ℕ} {colours work : List ℕ} (g : AllNext n colours work) where
 
     pub again : {work₂ : List ℕ} → c < 4 ^ n → PixelJoined n colours work₁ c work₂ → Passed n colours work work₂ (c + 1)
     again {work₂} h j =
-        let px : imageOf n colours work₁ ≡ imageOf n colours work = image-kept (s .only) colours in
+        let px : mapImage n colours work₁ ≡ mapImage n colours work = image-kept (s .only) colours in
         record {
           only = changed-twice (s .only) (j .only);
           joined =

@@ -10,8 +10,8 @@ use Rattle.cycles.specs.Mapped.{numsOf, Mapped}
 use Rattle.given_outlines.specs.Given.{coloured}
 
 -- The image in which each pixel has the colour of its number, by the map at the front of a list.
-abbrev pub imageOf : ℕ → List ℕ → List ℕ → List ℕ
-imageOf n colours work = coloured colours (numsOf n work)
+abbrev pub mapImage : ℕ → List ℕ → List ℕ → List ℕ
+mapImage n colours work = coloured colours (numsOf n work)
 
 -- The work list begins with a map of numbers: without marks, each entry is from 1 to the number of colours. There is room for 4^n
 -- entries more.

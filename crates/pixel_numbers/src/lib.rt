@@ -11,7 +11,7 @@ ghost use Prim.Native.Nat.{_-_};
 ghost use lib.ListN.{getD};
 ghost use Rattle.interleaving.specs.Codes.{code};
 ghost use Rattle.cycles.specs.Mapped.{numsOf};
-ghost use Rattle.pixel_numbers.specs.Promise.{imageOf, Comparable, NumbersCompared};
+ghost use Rattle.pixel_numbers.specs.Promise.{mapImage, Comparable, NumbersCompared};
 ghost use Rattle.pixel_numbers.specs.Parents.{parentsOf};
 ghost use Rattle.pixel_numbers.specs.Neighbours.{PixelAt, PairNext, PairJoined, PixelNext, PixelJoined};
 ghost use Rattle.pixel_numbers.specs.Pixels.{AllNext, AllJoined};
@@ -20,7 +20,7 @@ ghost use Rattle.pixel_numbers.specs.Comparing.{Numbered};
 // The colour of the pixel (x, y): that of its number.
 fn colour_at(n: u32, colours: &[u16], work: &[u32], x: usize, y: usize) -> u16
     requires { ⌜ PixelAt n (now colours) (now work) x y ⌝ }
-    ensures { λ r. ⌜ r ≡ getD (imageOf n (now (colours .entry)) (now (work .entry))) (code n x y) 0 ⌝ }
+    ensures { λ r. ⌜ r ≡ getD (mapImage n (now (colours .entry)) (now (work .entry))) (code n x y) 0 ⌝ }
 {
     let number = work[y * location::side(n) + x] - 1;
     colours[number as usize]

@@ -11,7 +11,8 @@ use lib.ListN.{length, getD, drop, drop-of-length-le}
 use lib.Seq.{drop-cons}
 use borrow.Author.Tests.{lt-ltb, le-ltb, eq-eqb, eqb-true}
 use Rattle.grid.specs.Stretches.{beginFrom}
-use Rattle.given_outlines.specs.Agreeing.{Agreeing, begins-alike}
+use Rattle.held.specs.Held.{begins-alike}
+use Rattle.given_outlines.specs.Agreeing.{Agreeing}
 
 -- Whether the ends rise from the place `from` to `total`.
 unfoldable pub endsRise : ℕ → List ℕ → ℕ → Bool

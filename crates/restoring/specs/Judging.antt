@@ -2,7 +2,7 @@
 use mathlib.Core.Path.{_≡_, sym, ap, _∙_, subst}
 use mathlib.Core.Bool.{Bool, true, false, false≢true}
 use mathlib.Core.List.{List}
-use Prim.Native.Nat.{ℕ, suc, _+_, _*_, _/_, _%_, _^_, _≤_, _<_}
+use Prim.Native.Nat.{ℕ, _+_, _*_, _/_, _%_, _^_, _≤_, _<_}
 use native.Mathlib.Nat.{div-add-mod'}
 use native.Mathlib.Omega.{arith}
 use lib.ListN.{length, getD}
@@ -12,7 +12,7 @@ use Rattle.interleaving.specs.Interleaving.{code-below}
 use Rattle.quadtree.specs.Orders.{column-in, row-in}
 use Rattle.components.specs.Numbers.{numbers, regions}
 use Rattle.components.specs.Numbered.{number-below-regions}
-use Rattle.grid.specs.Listing.{allCorners, cornerCount}
+use Rattle.grid.specs.Listing.{cornerCount}
 use Rattle.links.specs.Image.{imageOutlines}
 use Rattle.grid.specs.Stretches.{length-ends}
 use Rattle.steps.specs.Look.{markBit}
@@ -22,8 +22,8 @@ use Rattle.given_outlines.specs.Candidate.{numbersFrom}
 use Rattle.given_outlines.specs.Agreeing.{Agreeing, lists-agree}
 use Rattle.given_outlines.specs.Starts.{EachFromItsStart}
 use Rattle.given_outlines.specs.Checked.{checked-has, has-checked}
-use Rattle.given_outlines.specs.Needed.{few-regions, few-cycles, few-corners, none-has}
-use Rattle.west_sides.specs.Promise.{Tellable, Told, RegionsTold}
+use Rattle.given_outlines.specs.Needed.{few-regions, few-cycles, few-corners}
+use Rattle.west_sides.specs.Promise.{Tellable, Told}
 use Rattle.pixel_numbers.specs.Promise.{Comparable, NumbersCompared}
 use Rattle.retracing.specs.Promise.{Retraceable, MapKept, Retraced}
 use Rattle.restoring.specs.Ends.{endsRise, rising-agree, agree-rising}
@@ -37,6 +37,7 @@ pub record Fitting (n : ℕ) (o : Outlines) : Type 0 where
   pub few-regions : length (o .colourList) ≤ 4 ^ n
   pub agree : Agreeing (o .ownerList) (o .endList) (o .cornerList)
 
+-- The answer: where no image has the outlines and the lists fit, either may come.
 pub record ListsJudged (n : ℕ) (o : Outlines) (ok : Bool) : Type 0 where
   pub fitting : ok ≡ true → Fitting n o
   pub none : ok ≡ false → NoneHas n o
@@ -60,24 +61,24 @@ pub record ImageJudged (n : ℕ) (o : Outlines) (work work′ : List ℕ) (ok : 
   pub found : ok ≡ true → Found n o work′
   pub none : ok ≡ false → NoneHas n o
 
-pub no-image : {n : ℕ} {o : Outlines} {work work′ : List ℕ} → length work′ ≡ length work → NoneHas n o → ImageJudged n o work work′ false
-no-image long none = record { long = long; found = λ t. absurd (false≢true t); none = λ t. none }
+pub none-found : {n : ℕ} {o : Outlines} {work work′ : List ℕ} → length work′ ≡ length work → NoneHas n o → ImageJudged n o work work′ false
+none-found long none = record { long = long; found = λ t. absurd (false≢true t); none = λ t. none }
 
 -- ---- the lists by themselves
 
-pub unfit : {n : ℕ} {o : Outlines} → NoneHas n o → ListsJudged n o false
-unfit none = record { fitting = λ e. absurd (false≢true e); none = λ e. none }
+pub not-fitting : {n : ℕ} {o : Outlines} → NoneHas n o → ListsJudged n o false
+not-fitting none = record { fitting = λ e. absurd (false≢true e); none = λ e. none }
 
 module _ {n : ℕ} {o : Outlines} (small : n ≤ 8) where
   pub too-many-regions : 4 ^ n < length (o .colourList) → ListsJudged n o false
-  too-many-regions h = unfit (λ px has. let z : ⊥ = omega (arith, has .a-colour-each, few-regions px small) in z)
+  too-many-regions h = not-fitting (λ px has. let z : ⊥ = omega (arith, has .a-colour-each, few-regions px small) in z)
 
   pub too-many-cycles : 4 ^ n < length (o .endList) → ListsJudged n o false
-  too-many-cycles h = unfit (λ px has. let z : ⊥ = omega (arith, ap length (has .ends-are), length-ends (imageOutlines n px), few-cycles px small) in z)
+  too-many-cycles h = not-fitting (λ px has. let z : ⊥ = omega (arith, ap length (has .ends-are), length-ends (imageOutlines n px), few-cycles px small) in z)
 
   pub too-many-corners : 4 * 4 ^ n < length (o .cornerList) → ListsJudged n o false
   unfolding cornerCount
-  too-many-corners h = unfit (λ px has. let z : ⊥ = omega (arith, ap length (has .corners-are), few-corners px small) in z)
+  too-many-corners h = not-fitting (λ px has. let z : ⊥ = omega (arith, ap length (has .corners-are), few-corners px small) in z)
 
   pub by-ends : length (o .ownerList) ≡ length (o .endList) → length (o .colourList) ≤ 4 ^ n → {ok : Bool} → ok ≡ endsRise 0 (o .endList) (length (o .cornerList))
       → ListsJudged n o ok

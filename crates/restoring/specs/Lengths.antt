@@ -1,4 +1,4 @@
--- Lent lists of at least the lengths that are needed.
+-- Lent lists with the entries that are needed.
 use mathlib.Core.Path.{_≡_, refl, sym, ap, _∙_}
 use mathlib.Core.Bool.{Bool, true, false, _||_, true≢false}
 use mathlib.Core.List.{List}
@@ -13,7 +13,7 @@ use Rattle.quadtree.specs.BlockLists.{BlockList, oneShort, short-by-least, leas
 use Rattle.restoring.specs.Promise.{lentShort, tooShort}
 
 -- "three output lists of 4^n and the work list", which "is 8 times 4^n 32-bit entries".
-pub record LongEnough (n : ℕ) (lent : BlockList) (work : List ℕ) : Type 0 where
+pub record NeedsMet (n : ℕ) (lent : BlockList) (work : List ℕ) : Type 0 where
   pub room : RoomFor (4 ^ n) lent
   pub for-work : 8 * 4 ^ n ≤ length work
 
@@ -49,23 +49,23 @@ module _ (n : ℕ) (lent : BlockList) (work : List ℕ) where
   unfolding lentShort
   by-least = ap (λ (s : Bool). s || ltb (length work) (8 * 4 ^ n)) (short-by-least (4 ^ n) (length (lent .codes)) (length (lent .levels)) (length (lent .colours)))
 
-  pub none-short : LongEnough n lent work → tooShort n lent work ≡ false
+  pub none-short : NeedsMet n lent work → tooShort n lent work ≡ false
   none-short l =
       by-least
       ∙ ap (λ (s : Bool). s || ltb (length work) (8 * 4 ^ n)) (le-ltb (leastLength lent) (4 ^ n) (omega (arith, l .room .in-codes, l .room .in-levels, l .room .in-colours)))
       ∙ le-ltb (length work) (8 * 4 ^ n) (l .for-work)
 
-  pub long-enough : tooShort n lent work ≡ false → LongEnough n lent work
-  long-enough h = pick (decLt (leastLength lent) (4 ^ n)) (decLt (length work) (8 * 4 ^ n))
+  pub needs-met : tooShort n lent work ≡ false → NeedsMet n lent work
+  needs-met h = pick (decLt (leastLength lent) (4 ^ n)) (decLt (length work) (8 * 4 ^ n))
     where
-      pick : Dec (leastLength lent < 4 ^ n) → Dec (length work < 8 * 4 ^ n) → LongEnough n lent work
+      pick : Dec (leastLength lent < 4 ^ n) → Dec (length work < 8 * 4 ^ n) → NeedsMet n lent work
       pick (yes a) b = absurd (true≢false (sym (by-least ∙ ap (λ (s : Bool). s || ltb (length work) (8 * 4 ^ n)) (lt-ltb (leastLength lent) (4 ^ n) a)) ∙ h))
       pick (no a) (yes b) = absurd (true≢false (sym (by-least ∙ or-right (ltb (leastLength lent) (4 ^ n)) (ltb (length work) (8 * 4 ^ n)) (lt-ltb (length work) (8 * 4 ^ n) b)) ∙ h))
       pick (no a) (no b) = record { room = room-by-least (omega arith); for-work = omega arith }
 
-  pub one-short : (LongEnough n lent work → ⊥) → tooShort n lent work ≡ true
+  pub one-short : (NeedsMet n lent work → ⊥) → tooShort n lent work ≡ true
   one-short f = pick (tooShort n lent work) refl
     where
       pick : (t : Bool) → tooShort n lent work ≡ t → tooShort n lent work ≡ true
       pick true e = e
-      pick false e = absurd (f (long-enough e))
+      pick false e = absurd (f (needs-met e))

@@ -5,7 +5,6 @@ pub mod Lengths
 pub mod Ends
 pub mod Judging
 -- The block list given back, and from there the promise.
-pub mod Counts
 pub mod Restored
 -- Where a caller stands.
 pub mod Callers

@@ -1,5 +1,5 @@
 -- What giving back the block list of given outlines promises: the answer, and the later content of each lent list (document 02, request f).
-use mathlib.Core.Path.{_≡_, refl, sym, ap, _∙_}
+use mathlib.Core.Path.{_≡_, sym, ap, _∙_}
 use mathlib.Core.Bool.{Bool, true, false, cond, _||_}
 use mathlib.Core.List.{List, []}
 use Prim.Native.Nat.{ℕ, _*_, _^_, _≤_, _<_}
@@ -86,11 +86,13 @@ module _ (n : ℕ) (g : Given) (lent : BlockList) (work : List ℕ) where
         in-work = zeros ∙ sym (ap (λ k. over (zerosAfter n k) work) (past-eight ∙ e));
       }
 
-      pub given-back : outlinesNumber n g ≡ 0 → {after : BlockList} {work₁ : List ℕ} {count : ℕ} → work₁ ≡ over (replicate (8 * 4 ^ n) 0) work → count ≡ length (blocksBack n g)
-          → (after .codes ≡ over (codes (blocksBack n g)) (lent .codes)) × (after .levels ≡ over (levels (blocksBack n g)) (lent .levels)) × (after .colours ≡ over (colours (blocksBack n g)) (lent .colours))
+      pub list-given-back : outlinesNumber n g ≡ 0 → {after : BlockList} {work₁ : List ℕ} {count : ℕ} → work₁ ≡ over (replicate (8 * 4 ^ n) 0) work
+          → count ≡ length (blocksBack n g)
+          → (after .codes ≡ over (codes (blocksBack n g)) (lent .codes)) × (after .levels ≡ over (levels (blocksBack n g)) (lent .levels))
+          × (after .colours ≡ over (colours (blocksBack n g)) (lent .colours))
           → Restoring n g lent work after work₁ (record { number = 0; count = count })
       unfolding zerosAfter
-      given-back e {after} {work₁} {count} zeros counted front = record {
+      list-given-back e {after} {work₁} {count} zeros counted front = record {
         writes = blocks-written (past-eight ∙ e) counted front;
         in-work = zeros ∙ sym (ap (λ k. over (zerosAfter n k) work) (past-eight ∙ e));
       }

@@ -14,12 +14,12 @@ use Rattle.runs.specs.Stored.{stored, stored-in-front}
 use Rattle.cycles.specs.Mapped.{numsOf}
 use Rattle.appending.specs.Progress.{AllWritten}
 use Rattle.given_outlines.specs.Given.{Outlines, Given, upToCounts, HasOutlines, coloured}
-use Rattle.given_outlines.specs.Judged.{candidateOf, outlinesNumber, has-accepted, none-refused}
-use Rattle.restoring.specs.Promise.{tooShort, Restoring, blocksBack, no-image, given-back}
-use Rattle.restoring.specs.Lengths.{LongEnough, long-enough}
+use Rattle.given_outlines.specs.Judged.{candidateOf, has-accepted, none-refused}
+use Rattle.restoring.specs.Promise.{tooShort, Restoring, blocksBack, no-image, list-given-back}
+use Rattle.restoring.specs.Lengths.{needs-met}
 use Rattle.map_blocks.specs.Painting.{Paintable}
 use Rattle.restoring.specs.Judging.{NoneHas, Judgeable, Found}
-use Rattle.restoring.specs.Counts.{CountsFit, given-fits, fitting-given}
+use Rattle.given_outlines.specs.Counts.{CountsFit, given-fits, fitting-given}
 
 -- The lists for the blocks and the work list have the entries that are needed.
 pub record Restorable (n : ℕ) (o : Outlines) (lent : BlockList) (work : List ℕ) : Type 0 where
@@ -28,11 +28,12 @@ pub record Restorable (n : ℕ) (o : Outlines) (lent : BlockList) (work : List �
 
 -- Either the blocks of an image that has the outlines are written, or none has them and the lists are as they were.
 pub data Outcome (n : ℕ) (o : Outlines) (before after : BlockList) (r : Written) : Type 0 where
-  found : (px : List ℕ) → HasOutlines n o px → r ≡ record { number = 0; count = length (quadtree n px) } → after ≡ stored 0 (quadtree n px) before → Outcome n o before after r
+  found : (px : List ℕ) → HasOutlines n o px → r ≡ record { number = 0; count = length (quadtree n px) } → after ≡ stored 0 (quadtree n px) before
+      → Outcome n o before after r
   none : NoneHas n o → r ≡ record { number = 18; count = 0 } → after ≡ before → Outcome n o before after r
 
 -- Besides, the work list is 0.
-pub record Restored (n : ℕ) (o : Outlines) (before : BlockList) (work : List ℕ) (after : BlockList) (work′ : List ℕ) (r : Written) : Type 0 where
+pub record Restored (n : ℕ) (o : Outlines) (before after : BlockList) (work′ : List ℕ) (r : Written) : Type 0 where
   pub outcome : Outcome n o before after r
   pub zeros : work′ ≡ replicate (8 * 4 ^ n) 0
   pub same : SameLengths after before
@@ -42,7 +43,7 @@ module _ {n : ℕ} {o : Outlines} {lent : BlockList} {work : List ℕ} (start : 
   paintable f = record { small = start .judgeable .small; mapped = f .mapped; below = f .below; room = start .room }
 
   pub all-given-back : {map work′ : List ℕ} {after : BlockList} {count : ℕ} → Found n o map → AllWritten n (coloured (o .colourList) (numsOf n map)) lent after count
-      → work′ ≡ replicate (8 * 4 ^ n) 0 → Restored n o lent work after work′ (record { number = 0; count = count })
+      → work′ ≡ replicate (8 * 4 ^ n) 0 → Restored n o lent after work′ (record { number = 0; count = count })
   all-given-back {map} f w zeros = record {
     outcome = found (coloured (o .colourList) (numsOf n map)) (f .has) (ap (λ k. record { number = 0; count = k }) (w .answer)) (w .lists);
     zeros = zeros;
@@ -50,7 +51,7 @@ module _ {n : ℕ} {o : Outlines} {lent : BlockList} {work : List ℕ} (start : 
   }
 
   pub none-given-back : {work′ : List ℕ} {r : Written} → NoneHas n o → r ≡ record { number = 18; count = 0 } → work′ ≡ replicate (8 * 4 ^ n) 0
-      → Restored n o lent work lent work′ r
+      → Restored n o lent lent work′ r
   none-given-back f e zeros = record { outcome = none f e refl; zeros = zeros; same = record { for-codes = refl; for-levels = refl; for-colours = refl } }
 
 -- A list cleared from end to end.
@@ -72,18 +73,18 @@ part-back {k} {s} {part} l e f h =
 
 module _ (n : ℕ) (g : Given) (lent : BlockList) (work : List ℕ) (small : n ≤ 8) (long : tooShort n lent work ≡ false) where
   -- A list shorter than its count.
-  pub counts-refused : (CountsFit g → ⊥) → {need : ℕ} {work₁ : List ℕ} {r : Written} → need ≡ 8 * 4 ^ n → r ≡ record { number = 18; count = 0 } → work₁ ≡ fill work 0 need 0
-      → Restoring n g lent work lent work₁ r
+  pub counts-refused : (CountsFit g → ⊥) → {need : ℕ} {work₁ : List ℕ} {r : Written} → need ≡ 8 * 4 ^ n → r ≡ record { number = 18; count = 0 }
+      → work₁ ≡ fill work 0 need 0 → Restoring n g lent work lent work₁ r
   counts-refused f {work₁ = work₁} e answer filled =
       subst (Restoring n g lent work lent work₁) (sym answer)
       (no-image n g lent work small long (none-refused n g small (λ px h. f (given-fits h)))
-      (filled ∙ ap (λ s. fill work 0 s 0) e ∙ fill-front work (8 * 4 ^ n) 0 (long-enough n lent work long .for-work)))
+      (filled ∙ ap (λ s. fill work 0 s 0) e ∙ fill-front work (8 * 4 ^ n) 0 (needs-met n lent work long .for-work)))
 
   -- The part of the work list that was lent stands in front of the rest again.
-  pub restored : CountsFit g → {need : ℕ} {part part′ : List ℕ} {after : BlockList} {r : Written} → need ≡ 8 * 4 ^ n → Restored n (upToCounts g) lent part after part′ r
+  pub restored : CountsFit g → {need : ℕ} {part′ : List ℕ} {after : BlockList} {r : Written} → need ≡ 8 * 4 ^ n → Restored n (upToCounts g) lent after part′ r
       → Restoring n g lent work after (part′ ++ drop need work) r
   unfolding blocksBack over
-  restored fit {need} {part} {part′} {after} {r} size w = pick (w .outcome)
+  restored fit {need} {part′} {after} {r} size w = pick (w .outcome)
     where
       work₁ : List ℕ
       work₁ = part′ ++ drop need work
@@ -96,7 +97,7 @@ module _ (n : ℕ) (g : Given) (lent : BlockList) (work : List ℕ) (small : n �
           let a = has-accepted n g small px (fitting-given fit has) in
           let back : quadtree n px ≡ quadtree n (candidateOf n g) = ap (quadtree n) (sym (a .1)) in
           subst (Restoring n g lent work after work₁) (sym e)
-          (given-back n g lent work small long (a .0) zeros (ap length back) (stored-in-front (blocksBack n g) lent after (f ∙ ap (λ bs. stored 0 bs lent) back)))
+          (list-given-back n g lent work small long (a .0) zeros (ap length back) (stored-in-front (blocksBack n g) lent after (f ∙ ap (λ bs. stored 0 bs lent) back)))
       pick (none f e same) =
           subst₂ (λ l a. Restoring n g lent work l work₁ a) (sym same) (sym e)
           (no-image n g lent work small long (none-refused n g small (λ px h. f px (h .up-to-counts))) zeros)

@@ -3,7 +3,7 @@
 ghost use mathlib.Core.Path.{_≡_};
 ghost use Prim.Native.Nat.{_≤_};
 ghost use lib.ListN.{length};
-ghost use Rattle.given_outlines.specs.Given.{outlinesOf};
+ghost use Rattle.given_outlines.specs.Given.{outlineLists};
 ghost use Rattle.restoring.specs.Ends.{endsRise};
 ghost use Rattle.restoring.specs.Judging.{Judgeable, ListsJudged, ImageJudged};
 
@@ -24,13 +24,20 @@ fn ends_rise(ends: &[u32], total: usize) -> bool
     from == total
 }
 
-// Whether the lists agree with each other. Longer lists than any image has are refused before they are gone through.
-fn lists_agree(n: u32, owners: &[u32], ends: &[u32], corners: &[u32], colours: &[u16]) -> bool
+// Whether the lists agree with each other. Lists longer than any image has are refused before they are gone through: for the time that it
+// takes, the answer would be the same.
+fn lists_agree(
+    n: u32,
+    owners: &[u32],
+    ends: &[u32],
+    corners: &[u32],
+    region_colours: &[u16],
+) -> bool
     requires { ⌜ (n ≤ 8) × (length (now owners) ≡ length (now ends)) ⌝ }
-    ensures { λ ok. ⌜ ListsJudged n (outlinesOf (now (owners .entry)) (now (ends .entry)) (now (corners .entry)) (now (colours .entry))) ok ⌝ }
+    ensures { λ ok. ⌜ ListsJudged n (outlineLists (now (owners .entry)) (now (ends .entry)) (now (corners .entry)) (now («region_colours» .entry))) ok ⌝ }
 {
     let whole = location::pixels(n);
-    if whole < colours.len() {
+    if whole < region_colours.len() {
         return false;
     }
     if whole < ends.len() {
@@ -48,20 +55,20 @@ pub(crate) fn has_image(
     owners: &[u32],
     ends: &[u32],
     corners: &[u32],
-    colours: &[u16],
+    region_colours: &[u16],
     work: &mut [u32],
 ) -> bool
-    requires { ⌜ Judgeable n (outlinesOf (now owners) (now ends) (now corners) (now colours)) (now work) ⌝ }
-    ensures { λ ok. ⌜ ImageJudged n (outlinesOf (now (owners .entry)) (now (ends .entry)) (now (corners .entry)) (now (colours .entry)))
+    requires { ⌜ Judgeable n (outlineLists (now owners) (now ends) (now corners) (now «region_colours»)) (now work) ⌝ }
+    ensures { λ ok. ⌜ ImageJudged n (outlineLists (now (owners .entry)) (now (ends .entry)) (now (corners .entry)) (now («region_colours» .entry)))
         (now (work .entry)) (now (work .exit)) ok ⌝ }
 {
-    if !lists_agree(n, owners, ends, corners, colours) {
+    if !lists_agree(n, owners, ends, corners, region_colours) {
         return false;
     }
-    if !west_sides::tell_regions(n, colours.len(), owners, ends, corners, work) {
+    if !west_sides::tell_regions(n, region_colours.len(), owners, ends, corners, work) {
         return false;
     }
-    if !pixel_numbers::numbers_agree(n, colours, work) {
+    if !pixel_numbers::numbers_agree(n, region_colours, work) {
         return false;
     }
     retracing::cycles_agree(n, owners, ends, corners, work)

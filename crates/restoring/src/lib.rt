@@ -7,8 +7,9 @@ ghost use Prim.Native.Nat.{_≤_};
 ghost use lib.ListN.{length};
 ghost use Rattle.sequences.specs.Fill.{fill};
 ghost use Rattle.quadtree.specs.BlockLists.{listOf};
-ghost use Rattle.given_outlines.specs.Given.{outlinesOf};
-ghost use Rattle.restoring.specs.Counts.{givenAs, CountsJudged};
+ghost use Rattle.sequences.specs.Says.{Says};
+ghost use Rattle.given_outlines.specs.Given.{outlineLists, givenAs};
+ghost use Rattle.given_outlines.specs.Counts.{CountsFit};
 ghost use Rattle.restoring.specs.Restored.{Restorable, Restored};
 ghost use Rattle.restoring.specs.Promise.{lentShort, Restoring};
 
@@ -47,9 +48,10 @@ fn counts_fit(
     owners: &[u32],
     ends: &[u32],
     corners: &[u32],
-    colours: &[u16],
+    region_colours: &[u16],
 ) -> bool
-    ensures { λ ok. ⌜ CountsJudged (givenAs regions cycles «corner_count» (outlinesOf (now (owners .entry)) (now (ends .entry)) (now (corners .entry)) (now (colours .entry)))) ok ⌝ }
+    ensures { λ ok. ⌜ Says ok (CountsFit (givenAs regions cycles «corner_count»
+        (outlineLists (now (owners .entry)) (now (ends .entry)) (now (corners .entry)) (now («region_colours» .entry))))) ⌝ }
 {
     if owners.len() < cycles as usize {
         return false;
@@ -60,7 +62,7 @@ fn counts_fit(
     if corners.len() < corner_count as usize {
         return false;
     }
-    regions as usize <= colours.len()
+    regions as usize <= region_colours.len()
 }
 
 // The answer where there is no such image: the first `need` entries of the work list are cleared.
@@ -84,17 +86,18 @@ fn restore(
     colours: &mut [u16],
     work: &mut [u32],
 ) -> Written
-    requires { ⌜ Restorable n (outlinesOf (now owners) (now ends) (now corners) (now «region_colours»)) (listOf (now codes) (now levels) (now colours)) (now work) ⌝ }
-    ensures { λ r. ⌜ Restored n (outlinesOf (now (owners .entry)) (now (ends .entry)) (now (corners .entry)) (now («region_colours» .entry)))
-        (listOf (now (codes .entry)) (now (levels .entry)) (now (colours .entry))) (now (work .entry))
+    requires { ⌜ Restorable n (outlineLists (now owners) (now ends) (now corners) (now «region_colours»))
+        (listOf (now codes) (now levels) (now colours)) (now work) ⌝ }
+    ensures { λ r. ⌜ Restored n (outlineLists (now (owners .entry)) (now (ends .entry)) (now (corners .entry)) (now («region_colours» .entry)))
+        (listOf (now (codes .entry)) (now (levels .entry)) (now (colours .entry)))
         (listOf (now (codes .exit)) (now (levels .exit)) (now (colours .exit))) (now (work .exit)) r ⌝ }
 {
-    let whole = work.len();
+    let entries = work.len();
     if !has_image(n, owners, ends, corners, region_colours, work) {
-        return no_image(whole, work);
+        return no_image(entries, work);
     }
     let count = write_blocks(n, work, region_colours, codes, levels, colours) as u32;
-    filling::fill(work, 0, whole, 0);
+    filling::fill(work, 0, entries, 0);
     Written { number: 0, count }
 }
 
@@ -114,7 +117,7 @@ pub fn blocks_from_outlines(
     work: &mut [u32],
 ) -> Written
     ensures { λ r. ⌜ Restoring n
-        (givenAs regions cycles «corner_count» (outlinesOf (now (owners .entry)) (now (ends .entry)) (now (corners .entry)) (now («region_colours» .entry))))
+        (givenAs regions cycles «corner_count» (outlineLists (now (owners .entry)) (now (ends .entry)) (now (corners .entry)) (now («region_colours» .entry))))
         (listOf (now (codes .entry)) (now (levels .entry)) (now (colours .entry))) (now (work .entry))
         (listOf (now (codes .exit)) (now (levels .exit)) (now (colours .exit))) (now (work .exit)) r ⌝ }
 {

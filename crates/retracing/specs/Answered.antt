@@ -8,7 +8,7 @@ use Rattle.grid.specs.Listing.{Cycle}
 use Rattle.cycles.specs.Mapped.{numsOf, Mapped}
 use Rattle.starts.specs.Unmarked.{NorthEdge}
 use Rattle.given_outlines.specs.CycleByCycle.{finish, each-marked}
-use Rattle.cycle_checks.specs.Says.{Says, says-no}
+use Rattle.sequences.specs.Says.{Says, says-no}
 use Rattle.retracing.specs.Promise.{Retraced}
 use Rattle.retracing.specs.Checking.{EachChecked}
 use Rattle.retracing.specs.LastPass.{EachMarked}

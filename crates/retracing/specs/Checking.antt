@@ -28,7 +28,7 @@ use Rattle.given_outlines.specs.Agreeing.{length-held, PartHeld, part-held}
 use Rattle.given_outlines.specs.Starts.{codeAt, EachFromItsStart}
 use Rattle.given_outlines.specs.CycleByCycle.{startTold, FromItsStart, FirstPixel, first-pixel, FirstAgree, each-from-its-start, each-in-order}
 use Rattle.given_outlines.specs.CycleByCycle as agreeing
-use Rattle.cycle_checks.specs.Says.{denied, granted}
+use Rattle.sequences.specs.Says.{denied, granted}
 use Rattle.cycle_checks.specs.Checked.{Checkable, CycleChecked}
 use Rattle.retracing.specs.Promise.{Retraceable, MapKept}
 use Rattle.retracing.specs.Ranks.{rank, rankAt, leastRank, least-first, least-next, in-order-ranks}

@@ -18,7 +18,7 @@ use Rattle.quadtree.specs.Orders.{column-in, row-in, place-in, code-of-place}
 use Rattle.steps.specs.Look.{markBit}
 use Rattle.cycles.specs.Mapped.{numsOf, Mapped, Marked}
 use Rattle.starts.specs.Unmarked.{PixelOf, NorthEdge, Tells, tells-marked, tells-first-row, tells-same, tells-edge, row-above}
-use Rattle.cycle_checks.specs.Says.{Says, says-yes, says-no, denied, granted}
+use Rattle.sequences.specs.Says.{Says, says-yes, says-no, denied, granted}
 
 -- Each north side that is an edge bears a mark.
 abbrev pub EachMarked : ℕ → List ℕ → Type 0

@@ -10,7 +10,7 @@ ghost use Rattle.interleaving.specs.Spreads.{spreads};
 ghost use Rattle.lattice.specs.Directions.{xOf, yOf};
 ghost use Rattle.cycles.specs.Mapped.{Mapped};
 ghost use Rattle.given_outlines.specs.Given.{cyclesIn};
-ghost use Rattle.cycle_checks.specs.Says.{Says};
+ghost use Rattle.sequences.specs.Says.{Says};
 ghost use Rattle.retracing.specs.Promise.{Retraceable, Retraced};
 ghost use Rattle.retracing.specs.Ranks.{rank};
 ghost use Rattle.retracing.specs.Checking.{EachChecked};

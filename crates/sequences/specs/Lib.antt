@@ -6,6 +6,8 @@ pub mod Ranges
 pub mod Powers
 pub mod Induction
 pub mod Cases
+pub mod Same
+pub mod Says
 pub mod Fill
 pub mod Differences
 pub mod SignedBits

@@ -11,7 +11,7 @@ use Rattle.components.specs.Joined.{Beside, beside-back}
 use Rattle.components.specs.Numbers.{numbers, regions, northOf}
 use Rattle.components.specs.Neighbours.{north-beside}
 use Rattle.forests.specs.Forest.{ParentsBelow, Above, parent, further, above-below, above-cases, above-none, above-same}
-use Rattle.forests.specs.Finding.{placeOf}
+use Rattle.orbits.specs.Finding.{placeOf}
 use Rattle.surrounding.specs.Surrounds.{north, Surrounds}
 use Rattle.surrounding.specs.Sharing.{edge-region-not-surrounded, surrounds-beside}
 use Rattle.surrounding.specs.Surrounded.{surrounded-unless-first}

@@ -24,7 +24,7 @@ use Rattle.grid.specs.Listed.{listing-length, owner-at, outline-at}
 use Rattle.grid.specs.Outer.{LeastPixel, least-starts, first-starts-least}
 use Rattle.components.specs.Numbers.{numbers, regions}
 use Rattle.components.specs.Numbered.{number-below-regions}
-use Rattle.forests.specs.Finding.{placeOf}
+use Rattle.orbits.specs.Finding.{placeOf}
 use Rattle.surrounding.specs.SouthSides.{southSide}
 use Rattle.surrounding.specs.Parents.{firstCycle, least-of}
 

@@ -19,7 +19,7 @@ use Rattle.grid.specs.Outer.{LeastPixel}
 use Rattle.components.specs.Numbers.{numbers, regions, northOf}
 use Rattle.components.specs.Neighbours.{north-beside}
 use Rattle.components.specs.Numbered.{length-numbers, number-below-regions, FirstOf, each-number-given}
-use Rattle.forests.specs.Finding.{placeOf, member, place-first, place-holds, member-in, member-not}
+use Rattle.orbits.specs.Finding.{placeOf, member, place-first, place-holds, member-in, member-not}
 use Rattle.surrounding.specs.SouthSides.{southSide}
 use Rattle.surrounding.specs.NorthOfLeast.{Below, smaller-number}
 

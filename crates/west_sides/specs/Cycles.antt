@@ -13,7 +13,8 @@ use Rattle.stretches.specs.Stretch.{beginOf}
 use Rattle.steps.specs.Look.{Square}
 use Rattle.given_outlines.specs.Given.{cyclesIn}
 use Rattle.given_outlines.specs.Agreeing.{Agreeing, PartHeld, part-held, length-held}
-use Rattle.given_outlines.specs.Candidate.{stands, ownerOf, regionFrom}
+use Rattle.given_outlines.specs.Candidate.{ownerOf, regionFrom}
+use Rattle.orbits.specs.Finding.{member}
 use Rattle.west_sides.specs.Northward.{stores, norths, Fits, Stored, length-stores, stored-by-edges}
 
 -- All outlines of a list, each with 1 plus its owner.
@@ -49,7 +50,7 @@ stored-by-all side narrow x y a b count units (c ∷ cs) w long fit =
     stored-by-all side narrow x y a b count (units - norths es) cs (stores side (suc (c .region)) es w)
     (omega (arith, length-stores side (suc (c .region)) es w)) (fit .2)
     ∙ ap (first (ownerOf cs e)) (stored-by-edges side narrow x y a b (suc (c .region)) (omega arith) es w long (fit .1 .inside))
-    ∙ sym (first-first (ownerOf cs e) (when (stands e es) (suc (c .region))) (getD w (y * side + x) 0))
+    ∙ sym (first-first (ownerOf cs e) (when (member e es) (suc (c .region))) (getD w (y * side + x) 0))
 
 -- It is at most the count of regions.
 first-at-most : (a b count : ℕ) → a ≤ count → b ≤ count → first a b ≤ count
@@ -66,9 +67,9 @@ owner-at-most : (side count units : ℕ) (l : List Cycle) (e : ℕ) → AllFit s
 unfolding ownerOf AllFit
 owner-at-most side count units [] e fit = omega arith
 owner-at-most side count units (c ∷ cs) e fit =
-    first-at-most (ownerOf cs e) (when (stands e (outline (c .points))) (suc (c .region))) count
+    first-at-most (ownerOf cs e) (when (member e (outline (c .points))) (suc (c .region))) count
     (owner-at-most side count (units - norths (outline (c .points))) cs e (fit .2))
-    (when-at-most (stands e (outline (c .points))) (suc (c .region)) count (omega (arith, fit .0)))
+    (when-at-most (member e (outline (c .points))) (suc (c .region)) count (omega (arith, fit .0)))
 
 pub region-at-most : (side count units : ℕ) (l : List Cycle) (y x : ℕ) → AllFit side count units l → regionFrom l y x ≤ count
 unfolding regionFrom
@@ -80,7 +81,7 @@ region-at-most side count units l y (suc x) fit =
 -- ---- the loop over the cycles
 
 -- Lists that agree with each other, and a map with an entry for each pixel of an image that may have so many regions.
-pub record CyclesHeld (side count : ℕ) (os es cs map : List ℕ) : Type 0 where
+pub record Storable (side count : ℕ) (os es cs map : List ℕ) : Type 0 where
   pub square : Square side map
   pub agree : Agreeing os es cs
   pub few-regions : count ≤ 65536

@@ -17,8 +17,7 @@ use Rattle.lattice.specs.Directions.{point, xOf, yOf, edge, tail, digit}
 use Rattle.orbits.specs.Members.{In, in-first, in-later, in-append, in-left, in-right}
 use Rattle.grid.specs.Sides.{sideAt}
 use Rattle.steps.specs.Look.{Square}
-use Rattle.given_outlines.specs.Candidate.{stands}
-use Rattle.given_outlines.specs.Complete.{stands-here, stands-later}
+use Rattle.orbits.specs.Finding.{member, member-here, member-later}
 
 -- The place, in rows of the length `side`, of the pixel on the right of a northward edge: its tail is the pixel's southwest corner.
 unfoldable pub placeRight : ℕ → ℕ → ℕ
@@ -185,8 +184,8 @@ module _ (side : ℕ) (narrow : side ≤ 256) (x y : ℕ) (x-below : x < side) (
   first-itself false r = refl
 
   pub stored-by-edges : (r : ℕ) → 0 < r → (es w : List ℕ) → side * side ≤ length w → ((e : ℕ) → In e es → digit e ≡ 1 → PixelInside side e)
-      → getD (stores side r es w) (y * side + x) 0 ≡ first (when (stands (sideAt x y 1) es) r) (getD w (y * side + x) 0)
-  unfolding stores stands first when
+      → getD (stores side r es w) (y * side + x) 0 ≡ first (when (member (sideAt x y 1) es) r) (getD w (y * side + x) 0)
+  unfolding stores member first when
   stored-by-edges r pos [] w long fit = refl
   stored-by-edges r pos (e ∷ es) w long fit =
       stored-by-edges r pos es (store side r w e) (omega (arith, length-store side r w e)) (λ d i. fit d (in-later d e es i)) ∙ pick (ℕ-discrete west e)
@@ -198,16 +197,16 @@ module _ (side : ℕ) (narrow : side ≤ 256) (x y : ℕ) (x-below : x < side) (
       elsewhere n (no d) = ap (λ (l : List ℕ). getD l here 0) (store-other side r w e d)
 
       pick : Dec (west ≡ e)
-          → first (when (stands west es) r) (getD (store side r w e) here 0) ≡ first (when (stands west (e ∷ es)) r) (getD w here 0)
+          → first (when (member west es) r) (getD (store side r w e) here 0) ≡ first (when (member west (e ∷ es)) r) (getD w here 0)
       pick (yes q) =
           let d : digit e ≡ 1 = ap digit (sym q) ∙ west-side .0 in
           let s : placeRight side e ≡ here = ap (placeRight side) (sym q) ∙ west-side .1 in
           let v : getD (store side r w e) here 0 ≡ r =
           ap (λ (l : List ℕ). getD l here 0) (store-north side r w e d ∙ ap (λ (i : ℕ). set w i r) s)
           ∙ getD-set-same w here r 0 (omega (arith, digits-lt {q = y} {m = side} {r = x} {c = side} y-below x-below)) in
-          ap (first (when (stands west es) r)) v ∙ first-itself (stands west es) r
+          ap (first (when (member west es) r)) v ∙ first-itself (member west es) r
           ∙ sym (first-some r (getD w here 0) pos)
-          ∙ ap (λ (t : Bool). first (when t r) (getD w here 0)) (sym (stands-here west e es q))
+          ∙ ap (λ (t : Bool). first (when t r) (getD w here 0)) (sym (member-here west e es (sym q)))
       pick (no q) =
-          ap (first (when (stands west es) r)) (elsewhere q (ℕ-discrete (digit e) 1))
-          ∙ ap (λ (t : Bool). first (when t r) (getD w here 0)) (sym (stands-later west e es q))
+          ap (first (when (member west es) r)) (elsewhere q (ℕ-discrete (digit e) 1))
+          ∙ ap (λ (t : Bool). first (when t r) (getD w here 0)) (sym (member-later west e es (λ h. q (sym h))))

@@ -24,7 +24,7 @@ pub record Told (n count : ℕ) (l : List Cycle) (map : List ℕ) : Type 0 where
   pub numbers-are : numsOf n map ≡ numbersFrom n l
 
 -- The answer, and the map afterwards. Where the answer is false, no image with so many regions has these outlines, and the first 4^n entries
--- are free.
+-- are free. Where none has them, either answer may come.
 pub record RegionsTold (n count : ℕ) (l : List Cycle) (map map′ : List ℕ) (ok : Bool) : Type 0 where
   pub long : length map′ ≡ length map
   pub beyond : (j : ℕ) → 4 ^ n ≤ j → getD map′ j 0 ≡ getD map j 0

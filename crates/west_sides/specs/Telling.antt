@@ -28,7 +28,7 @@ use Rattle.given_outlines.specs.Agreeing.{Agreeing}
 use Rattle.given_outlines.specs.Candidate.{ownerOf, regionFrom, numbersFrom}
 use Rattle.given_outlines.specs.Needed.{NoImage, region-told}
 use Rattle.west_sides.specs.Promise.{Tellable, RegionsTold}
-use Rattle.west_sides.specs.Cycles.{AllFit, CyclesHeld, AllOutlinesStored, stored-by-all, region-at-most}
+use Rattle.west_sides.specs.Cycles.{AllFit, Storable, AllOutlinesStored, stored-by-all, region-at-most}
 use Rattle.west_sides.specs.Needed.{none-where-not-fit}
 use Rattle.west_sides.specs.Rows.{fromWest, from-west-same, entryAt, RowsFilled}
 
@@ -91,7 +91,7 @@ module _ {n count side : ℕ} {os es cs map zeros : List ℕ} (h : TellableWhole
   square : length zeros ≡ side * side
   square = same-size ∙ h .size ∙ sym (square-of-side n) ∙ ap (λ (s : ℕ). s * s) (sym side-is)
 
-  pub cycles-held : CyclesHeld side count os es cs zeros
+  pub cycles-held : Storable side count os es cs zeros
   cycles-held =
       let most : 4 ^ n ≤ 65536 = pow4-mono (h .small) in
       record { square = record { small = narrow; room = omega (arith, square) }; agree = h .agree; few-regions = omega (arith, h .few-regions) }

@@ -9,7 +9,7 @@ ghost use Rattle.lattice.specs.Walks.{run, straight, outline};
 ghost use Rattle.steps.specs.Look.{Square};
 ghost use Rattle.given_outlines.specs.Given.{cyclesIn};
 ghost use Rattle.west_sides.specs.Northward.{stores, Stored};
-ghost use Rattle.west_sides.specs.Cycles.{CyclesHeld, AllOutlinesStored};
+ghost use Rattle.west_sides.specs.Cycles.{Storable, AllOutlinesStored};
 ghost use Rattle.west_sides.specs.Rows.{RowFilled, RowsFilled};
 ghost use Rattle.west_sides.specs.Telling.{TellableWhole, WholeTold};
 ghost use Rattle.west_sides.specs.Promise.{Tellable, RegionsTold};
@@ -28,7 +28,8 @@ fn store_north(map: &mut [u32], side: usize, x: usize, from: usize, to: usize, r
     }
 }
 
-// Whether edges were stored, and how many northward units may still be. Where they were not, the units and what the map holds are free.
+// Whether edges were stored, and how many northward units may still be, so that legs of any length cost no more than an image has pixels.
+// Where they were not stored, the units and what the map holds are free.
 struct Left {
     ok: bool,
     units: usize,
@@ -100,7 +101,7 @@ fn store_cycles(
     ends: &[u32],
     corners: &[u32],
 ) -> bool
-    requires { ⌜ CyclesHeld side regions (now owners) (now ends) (now corners) (now map) ⌝ }
+    requires { ⌜ Storable side regions (now owners) (now ends) (now corners) (now map) ⌝ }
     ensures { λ ok. ⌜ AllOutlinesStored side regions (length (now (map .entry))) (cyclesIn (now (owners .entry)) (now (ends .entry)) (now (corners .entry)))
         (now (map .entry)) (now (map .exit)) ok ⌝ }
 {

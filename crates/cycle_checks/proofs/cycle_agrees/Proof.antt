@@ -1,7 +1,7 @@
 -- A cycle from its start has a first corner in the image, a region that the map can hold, an edge there with which a walk may begin, and
 -- matches; and what passes these tests is one.
 use native.Mathlib.Omega.{arith}
-use Rattle.cycle_checks.specs.Says.{granted}
+use Rattle.sequences.specs.Says.{granted}
 use Rattle.cycle_checks.specs.Checked.{no-corner, south-of-image, no-region, square-here, no-walk, walked}
 use borrow.Author.Needs.{needs}
 use Rattle.cycle_checks.proofs.cycle_agrees.Statement.{statement}

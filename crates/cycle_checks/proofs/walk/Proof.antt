@@ -5,7 +5,7 @@ use native.Mathlib.Omega.{arith}
 use Rattle.lattice.specs.Directions.{point, edge}
 use Rattle.cycles.specs.Rounds.{leftAfter}
 use Rattle.cycle_checks.specs.Comparing.{Comparing, OneRunMore, edge-at, corner-due, at-first, start-inside, breaks-off, one-run-more}
-use Rattle.cycle_checks.specs.Says.{granted}
+use Rattle.sequences.specs.Says.{granted}
 use borrow.Author.Needs.{needs}
 use Rattle.cycle_checks.proofs.walk.Statement.{statement}
 use Rattle.cycle_checks.proofs.walk.Tie as tie

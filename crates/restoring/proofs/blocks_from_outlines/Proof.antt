@@ -1,20 +1,21 @@
 -- The tests stand in the order of the numbers: 1, 8, 18. Past 8 the part of the work list that is needed is lent, and comes back as zeros.
-use mathlib.Core.Path.{_≡_, sym, ap, _∙_, subst}
+use mathlib.Core.Path.{_≡_, sym, ap, _∙_}
 use mathlib.Core.Bool.{false}
 use Prim.Native.Nat.{_*_, _^_, _≤_}
 use native.Mathlib.Omega.{arith}
 use lib.ListN.{length, take}
 use lib.Seq.{length-take-le}
 use borrow.Author.Needs.{needs}
-use borrow.Author.Tests.{not-true, not-false}
+use borrow.Author.Tests.{not-false}
+use Rattle.sequences.specs.Says.{denied}
 use Rattle.sequences.specs.Fill.{length-fill}
 use Rattle.sequences.specs.Powers.{pow4-mono}
 use Rattle.location.specs.Levels.{pixels-are-power}
 use Rattle.quadtree.specs.BlockLists.{listOf}
-use Rattle.given_outlines.specs.Given.{outlinesOf}
+use Rattle.given_outlines.specs.Given.{outlineLists, givenAs}
 use Rattle.restoring.specs.Promise.{tooShort, side-too-large, one-too-short}
-use Rattle.restoring.specs.Lengths.{LongEnough, long-enough}
-use Rattle.restoring.specs.Counts.{givenAs, CountsFit, an-owner-each}
+use Rattle.restoring.specs.Lengths.{NeedsMet, needs-met}
+use Rattle.given_outlines.specs.Counts.{CountsFit, owners-as-ends}
 use Rattle.restoring.specs.Restored.{counts-refused, restored, part-back}
 use Rattle.restoring.proofs.blocks_from_outlines.Statement.{statement}
 use Rattle.restoring.proofs.blocks_from_outlines.Tie as tie
@@ -32,16 +33,16 @@ small c = c .before .if1 .left
 long : (c : tie.After-pixels) → let a = entry (measured c) .args in tooShort (a .n) (listOf (a .codes .now) (a .levels .now) (a .colours .now)) (a .work .now) ≡ false
 long c = sym (measured c .one-short .ensures) ∙ c .before .if2 .left
 
-enough : (c : tie.After-pixels) → let a = entry (measured c) .args in LongEnough (a .n) (listOf (a .codes .now) (a .levels .now) (a .colours .now)) (a .work .now)
-enough c = long-enough _ _ _ (long c)
+enough : (c : tie.After-pixels) → let a = entry (measured c) .args in NeedsMet (a .n) (listOf (a .codes .now) (a .levels .now) (a .colours .now)) (a .work .now)
+enough c = needs-met _ _ _ (long c)
 
 need : (c : tie.After-pixels) → 8 * c .pixels .result ≡ 8 * 4 ^ entry (measured c) .args .n
 need c = ap (λ k. 8 * k) (c .pixels .ensures ∙ pixels-are-power (entry (measured c) .args .n) (omega (arith, small (measured c))))
 
 -- Where the counts fit; that, seen from where the part is lent; and where it was lent, seen from the end.
 fits : (c : tie.Else3) → let a = entry (measured (c .before .before)) .args in
-    CountsFit (givenAs (a .regions) (a .cycles) (a .corner-count) (outlinesOf (a .owners .now) (a .ends .now) (a .corners .now) (a .region-colours .now)))
-fits c = c .before .counts-fit .ensures .fit (not-false _ (c .if3 .left))
+    CountsFit (givenAs (a .regions) (a .cycles) (a .corner-count) (outlineLists (a .owners .now) (a .ends .now) (a .corners .now) (a .region-colours .now)))
+fits c = c .before .counts-fit .ensures .0 (not-false _ (c .if3 .left))
 
 abbrev judged : tie.After-restore-arg8 → tie.Else3
 judged c = c .before .before .before .before .before .before .before .before
@@ -87,7 +88,7 @@ returns-3 : tie.Need-returns-3
 returns-3 c =
     let f = c .before .before .before .before .before in
     let d = f .before in
-    counts-refused _ _ _ (entry (measured d) .args .work .now) (small (measured d)) (long d) (f .counts-fit .ensures .unfit (not-true _ (c .before .before .before .before .if3 .taken)))
+    counts-refused _ _ _ (entry (measured d) .args .work .now) (small (measured d)) (long d) (denied (f .counts-fit .ensures) (c .before .before .before .before .if3 .taken))
     (need d) (c .before .before .no-image .ensures .0) (c .before .before .no-image .ensures .1)
 
 slice-aggregate-restore : tie.Need-slice-aggregate-restore
@@ -128,7 +129,7 @@ restore-requires : tie.Need-restore-requires
 restore-requires c κs =
     let d = judged c .before .before in
     record {
-      judgeable = record { small = small (measured d); an-owner-each = an-owner-each (fits (judged c)); room = part-long d ∙ need d };
+      judgeable = record { small = small (measured d); an-owner-each = owners-as-ends (fits (judged c)); room = part-long d ∙ need d };
       room = enough d .room;
     }
 

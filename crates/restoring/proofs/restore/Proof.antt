@@ -1,5 +1,5 @@
 -- The check leaves a map of the image's numbers, from which the blocks are written; either way the list is cleared from end to end.
-use mathlib.Core.Path.{_≡_, sym, ap, _∙_, subst}
+use mathlib.Core.Path.{_≡_, ap, _∙_}
 use Prim.Native.Nat.{_*_, _^_}
 use native.Mathlib.Omega.{arith}
 use lib.ListN.{length}

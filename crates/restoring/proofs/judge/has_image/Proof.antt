@@ -2,9 +2,9 @@
 use mathlib.Core.Path.{refl, _∙_}
 use borrow.Author.Needs.{needs}
 use borrow.Author.Tests.{not-true, not-false}
-use Rattle.given_outlines.specs.Given.{outlinesOf}
+use Rattle.given_outlines.specs.Given.{outlineLists}
 use Rattle.given_outlines.specs.Needed.{none-has}
-use Rattle.restoring.specs.Judging.{Fitting, no-image, tellable, comparable, not-numbered, retraceable, image-judged}
+use Rattle.restoring.specs.Judging.{Fitting, none-found, tellable, comparable, not-numbered, retraceable, image-judged}
 use Rattle.restoring.proofs.judge.has_image.Statement.{statement}
 use Rattle.restoring.proofs.judge.has_image.Tie as tie
 
@@ -24,14 +24,14 @@ compared c = c .before .before .before
 abbrev known : tie.After-numbers-agree → tie.Else2
 known c = c .before .before
 
-fits : (c : tie.Else1) → let a = entry (c .before) .args in Fitting (a .n) (outlinesOf (a .owners .now) (a .ends .now) (a .corners .now) (a .colours .now))
+fits : (c : tie.Else1) → let a = entry (c .before) .args in Fitting (a .n) (outlineLists (a .owners .now) (a .ends .now) (a .corners .now) (a .region-colours .now))
 fits c = c .before .lists-agree .ensures .fitting (not-false _ (c .if1 .left))
 
 lists-agree-requires : tie.Need-lists-agree-requires
 lists-agree-requires c κs = search needs
 
 returns : tie.Need-returns
-returns c = no-image refl (c .before .lists-agree .ensures .none (not-true _ (c .if1 .taken)))
+returns c = none-found refl (c .before .lists-agree .ensures .none (not-true _ (c .if1 .taken)))
 
 tell-regions-requires : tie.Need-tell-regions-requires
 tell-regions-requires c κs = tellable (entry (c .before .before) .pre) (fits (c .before))
@@ -42,7 +42,7 @@ same-length c = c .before .before .before .tell-regions .ensures .long
 returns-2 : tie.Need-returns-2
 returns-2 c =
     let t = c .before .before .before in
-    no-image (t .tell-regions .ensures .long) (none-has (t .tell-regions .ensures .none (not-true _ (c .if2 .taken))))
+    none-found (t .tell-regions .ensures .long) (none-has (t .tell-regions .ensures .none (not-true _ (c .if2 .taken))))
 
 numbers-agree-requires : tie.Need-numbers-agree-requires
 numbers-agree-requires c κs =
@@ -58,7 +58,7 @@ returns-3 : tie.Need-returns-3
 returns-3 c =
     let m = c .before .before .before in
     let t = told (known m) in
-    no-image (m .numbers-agree .ensures .long ∙ t .tell-regions .ensures .long)
+    none-found (m .numbers-agree .ensures .long ∙ t .tell-regions .ensures .long)
     (not-numbered (entry (listed t .before) .pre) (fits (listed t)) (t .tell-regions .ensures .told (not-false _ (known m .if2 .left))) (t .tell-regions .ensures .long) (m .numbers-agree .ensures) (not-true _ (c .if3 .taken)))
 
 cycles-agree-requires : tie.Need-cycles-agree-requires

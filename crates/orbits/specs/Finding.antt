@@ -1,7 +1,7 @@
 -- The first place of a number in a list, and whether it stands in it: executable.
 use mathlib.Core.Path.{_≡_, refl, sym, ap, _∙_}
 use mathlib.Core.Logic.{_≢_, _⊎_, inl, inr}
-use mathlib.Core.Bool.{Bool, true, false}
+use mathlib.Core.Bool.{Bool, true, false, false≢true}
 use mathlib.Core.List.{List, [], _∷_}
 use Prim.Native.Nat.{ℕ, zero, suc, _≤_, _<_}
 use native.Mathlib.Decide.{ℕ-discrete}
@@ -74,3 +74,12 @@ member-not v (x ∷ l) n = pick (ℕ-discrete x v) (member-not v l (λ i. n (in-
     pick : Dec (x ≡ v) → member v l ≡ false → member v (x ∷ l) ≡ false
     pick (yes a) ih = absurd (n (0, omega arith, a))
     pick (no a) ih = member-later v x l a ∙ ih
+
+pub member-says : (v : ℕ) (l : List ℕ) → member v l ≡ true → In v l
+unfolding member
+member-says v [] h = absurd (false≢true h)
+member-says v (x ∷ l) h = pick (ℕ-discrete x v) (member-says v l)
+  where
+    pick : Dec (x ≡ v) → (member v l ≡ true → In v l) → In v (x ∷ l)
+    pick (yes a) ih = (0, omega arith, a)
+    pick (no a) ih = in-later v x l (ih (sym (member-later v x l a) ∙ h))
