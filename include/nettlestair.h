@@ -134,7 +134,7 @@ struct nettlestair_traced nettlestair_trace(uint32_t n, const uint32_t *codes, s
 /* The block list that given outlines came from: 0, or 1, 8, 18 where no accepted block list of this n has these counts, owners, ends,
    corners and region colours. Counts and lists are as nettlestair_trace gives them, without the areas; the region colours have one entry a
    region. Entries beyond the counts are not looked at; a list that is shorter than its count is 18. Traced, the block list gives the same
-   outlines. Each of the three lists written has room for 4^n entries, the work list for 8 times 4^n; that many of its entries are 0 after
+   outlines. Each of the three lists written has room for 4^n entries, the work list for 8 times 4^n; its first 8 times 4^n entries are 0 after
    0 and after 18. */
 struct nettlestair_written nettlestair_blocks_from_outlines(uint32_t n, uint32_t regions, uint32_t cycles, uint32_t corner_count,
                                                             const uint32_t *owners, size_t owners_len, const uint32_t *ends,

@@ -551,7 +551,7 @@ pub fn trace(
 /// The block list that given outlines came from: 0, or 1, 8, 18 where no accepted block list of this n has these counts, owners, ends,
 /// corners and region colours. Counts and lists are as `trace` gives them, without the areas; the region colours have one entry a region.
 /// Entries beyond the counts are not looked at; a list that is shorter than its count is 18. Traced, the block list gives the same
-/// outlines. Each of the three lists written has room for 4^n entries, the work list for 8 times 4^n; that many of its entries are 0
+/// outlines. Each of the three lists written has room for 4^n entries, the work list for 8 times 4^n; the first of them, 8 times 4^n, are 0
 /// after 0 and after 18.
 #[allow(clippy::too_many_arguments)]
 pub fn blocks_from_outlines(

@@ -261,8 +261,7 @@ int main(void) {
     expect("blocks from outlines, colours", !memcmp(from_outlines.colours, colours, sizeof colours) && LEFT(from_outlines.colours, 7));
     expect("blocks from outlines, work", !memcmp(from_outlines.work, all_zeros, sizeof all_zeros) && LEFT(from_outlines.work, 128));
 
-    /* refusals: two neighbours of one colour, a list shorter than its count, of which the work list alone is altered; before them a list
-       too short, and before that n, which alter nothing */
+    /* refusals: 18 alters the work list alone; 8 and 1 come first and alter nothing */
     from_outlines = before_outlines;
     w = nettlestair_blocks_from_outlines(2, 3, 3, 18, given_owners, 3, given_ends, 3, points, 18, alike, 3, from_outlines.codes, 16,
                                          from_outlines.levels, 16, from_outlines.colours, 16, from_outlines.work, 127);

@@ -114,8 +114,7 @@ pub fn in_outlines(random: &mut Random, given: &mut Given) {
             in_list(random, &mut given.owners, &likely);
         }
         2 => {
-            let at = place(random, given.ends.len());
-            let likely = [0, given.corner_count, given.ends.get(at).map_or(4, |end| end.wrapping_add(2))];
+            let likely = [0, given.corner_count, given.ends.first().map_or(4, |end| end.wrapping_add(2))];
             in_list(random, &mut given.ends, &likely);
         }
         3 => in_corners(random, &mut given.corners),

@@ -487,7 +487,7 @@ fn pixels_outside() {
 }
 
 /// Outlines of figure 5(b), with garbage beyond the counts or without, and others that no image of its side has, each with 0 or 18.
-fn outlines() -> Vec<(Given, u32)> {
+fn given_outlines() -> Vec<(Given, u32)> {
     let right = Given::of(2, &FIGURE_5B);
     let with = |change: fn(&mut Given)| {
         let mut given = right.clone();
@@ -529,7 +529,7 @@ fn causes_of_outlines() {
         let whole = if n == 9 { 1 << 18 } else { 16 };
         let need = [whole, whole, whole, 8 * whole];
         let short = [[1, 0, 0, 0], [0, 1, 0, 0], [0, 0, 1, 0], [0, 0, 0, 1], [1; 4], need].map(|short| (short, 8));
-        for (given, c) in outlines() {
+        for (given, c) in given_outlines() {
             for (short, b) in [([0; 4], 0)].into_iter().chain(short) {
                 let lengths = [0, 1, 2, 3].map(|list| need[list] - short[list]);
                 let number = [a, b, c].into_iter().find(|&number| number != 0);

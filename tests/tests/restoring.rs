@@ -717,8 +717,9 @@ fn lengths() {
     cases.end();
 }
 
-/// Lists that are lent at n = 8, for calls that are timed.
+/// Lists that are lent, for calls that are timed or whose steps are counted.
 struct Lists {
+    n: u32,
     codes: Vec<u32>,
     levels: Vec<u8>,
     colours: Vec<u16>,
@@ -726,41 +727,58 @@ struct Lists {
 }
 
 impl Lists {
+    fn of(n: u32) -> Lists {
+        let whole = 1 << (2 * n);
+        Lists { n, codes: vec![9; whole], levels: vec![9; whole], colours: vec![9; whole], work: vec![9; 8 * whole] }
+    }
+
+    fn call(&mut self, given: &Given) -> u32 {
+        let Given { regions, cycles, corner_count, owners, ends, corners, colours } = given;
+        let Lists { n, codes, levels, colours: colours_out, work } = self;
+        let written = nettlestair::blocks_from_outlines(
+            *n,
+            *regions,
+            *cycles,
+            *corner_count,
+            owners,
+            ends,
+            corners,
+            colours,
+            codes,
+            levels,
+            colours_out,
+            work,
+        );
+        written.number
+    }
+
+    /// The number of given outlines, and how many machine instructions the call takes.
+    #[cfg(all(target_arch = "x86_64", target_os = "linux"))]
+    fn stepped(&mut self, given: &Given) -> (u32, u64) {
+        let mut number = 0;
+        let steps = tests::steps::steps(|| number = self.call(given));
+        (number, steps)
+    }
+
     /// The number of given outlines, and the processor time of the call, in seconds: the least of some calls.
     fn timed(&mut self, given: &Given, calls: usize) -> (u32, f64) {
         let mut least = f64::INFINITY;
         let mut number = 0;
         for _ in 0..calls {
-            let Given { regions, cycles, corner_count, owners, ends, corners, colours } = given;
-            let Lists { codes, levels, colours: colours_out, work } = self;
             let began = processor_time();
-            let written = nettlestair::blocks_from_outlines(
-                8,
-                *regions,
-                *cycles,
-                *corner_count,
-                owners,
-                ends,
-                corners,
-                colours,
-                codes,
-                levels,
-                colours_out,
-                work,
-            );
+            number = self.call(given);
             least = least.min(processor_time() - began);
-            number = written.number;
         }
         (number, least)
     }
 }
 
-/// A closed path of so many corners over the whole height of 256 by 256 pixels, from column to column and back.
-fn zigzag(count: usize) -> Vec<u32> {
-    let columns: Vec<u32> = (0..256).chain((1..256).rev()).collect();
+/// A closed path of so many corners over the whole height of an image, from column to column and back.
+fn zigzag(side: u32, count: usize) -> Vec<u32> {
+    let columns: Vec<u32> = (0..side).chain((1..side).rev()).collect();
     let turn = |i: usize| {
         let [x, east] = [i, i + 1].map(|i| columns[i % columns.len()]);
-        let y = if i % 2 == 0 { 0 } else { 256 };
+        let y = if i % 2 == 0 { 0 } else { side };
         [corner(x, y), corner(east, y)]
     };
     (0..count / 2).flat_map(turn).collect()
@@ -776,8 +794,8 @@ fn hard_to_refuse(random: &mut Random) -> Vec<(&'static str, Given)> {
     // y up to 8,388,607: a leg northward and a leg southward by turns
     let far = |count: usize| (0..count).map(|i| [0, u32::MAX - 511][i / 2 % 2] + [0, 1][(i + 1) / 2 % 2]).collect();
     let mut rows = vec![
-        ("2^18 corners over the whole height", Given::of_cycles(&[(0, zigzag(1 << 18))], &[7])),
-        ("2^18 + 4 corners", Given::of_cycles(&[(0, zigzag((1 << 18) + 4))], &[7])),
+        ("2^18 corners over the whole height", Given::of_cycles(&[(0, zigzag(256, 1 << 18))], &[7])),
+        ("2^18 + 4 corners", Given::of_cycles(&[(0, zigzag(256, (1 << 18) + 4))], &[7])),
         ("2^18 corners in one place", Given::of_cycles(&[(0, vec![0; 1 << 18])], &[7])),
         ("2^18 corners far apart", Given::of_cycles(&[(0, far(1 << 18))], &[7])),
         ("four corners far apart", Given::of_cycles(&[(0, far(4))], &[7])),
@@ -818,7 +836,7 @@ fn hard_to_refuse(random: &mut Random) -> Vec<(&'static str, Given)> {
 }
 
 /// How many times the slowest of some acceptances a refusal may take. Both are a few passes over the image and over the lists, so that one
-/// would do; without a bound on the unit sides that are followed, 2^18 corners over the whole height take more than five.
+/// would do.
 const TIMES: f64 = 4.0;
 
 /// A refusal takes no longer than some acceptances, whatever is given. Times are processor times of the thread, and the least of some calls,
@@ -827,9 +845,7 @@ const TIMES: f64 = 4.0;
 fn refusals_take_no_longer() {
     let mut cases = Cases::of("time of refusals");
     let mut random = Random::of("time of refusals");
-    let whole = 65_536;
-    let mut lists =
-        Lists { codes: vec![9; whole], levels: vec![9; whole], colours: vec![9; whole], work: vec![9; 8 * whole] };
+    let mut lists = Lists::of(8);
     let accepted: Vec<Given> =
         rasters::structured(&mut random, 8).iter().map(|(_, r)| outlines(&mut random, 8, &quadtree(8, r))).collect();
     let slowest = |lists: &mut Lists| {
@@ -859,6 +875,43 @@ fn refusals_take_no_longer() {
     let microseconds = |seconds: f64| (1e6 * seconds) as u32;
     println!("the slowest of some acceptances took {} microseconds", microseconds(bound / TIMES));
     println!("the slowest of some refusals took {} microseconds: {}", microseconds(longest.0), longest.1);
+    cases.end();
+}
+
+/// The same in machine instructions, at n = 3: no refusal takes more than the longest of some acceptances, and what is given beyond what an
+/// image can have costs next to nothing.
+#[cfg(all(target_arch = "x86_64", target_os = "linux"))]
+#[test]
+fn refusals_in_steps() {
+    let mut cases = Cases::of("steps of refusals");
+    let mut random = Random::of("steps of refusals");
+    let side = 8;
+    let mut lists = Lists::of(3);
+    let mut longest = 0;
+    for (what, raster) in rasters::structured(&mut random, 3) {
+        let (number, steps) = lists.stepped(&outlines(&mut random, 3, &quadtree(3, &raster)));
+        assert_eq!(number, 0, "{what}");
+        longest = longest.max(steps);
+        cases.ran();
+    }
+    let mut refused = |what: &str, given: Given| {
+        let (number, steps) = lists.stepped(&given);
+        assert_eq!(number, 18, "{what}");
+        assert!(0 < steps && steps <= longest, "{what}: {steps} steps, and the longest acceptance takes {longest}");
+        cases.ran();
+        steps
+    };
+    let legs = |count| Given::of_cycles(&[(0, zigzag(side, count))], &[7]);
+    let square = vec![0, side, corner(side, side), corner(0, side)];
+    let squares = |count| Given::of_cycles(&vec![(0, square.clone()); count], &[7]);
+    let empty = Given::of_cycles(&vec![(0, vec![]); 64], &[7]);
+    let [few, many] = [36, 256].map(|count| refused("legs over the height", legs(count)));
+    assert!(many <= few + 64, "220 corners more cost {many} steps in place of {few}");
+    let [nine, all] = [9, 64].map(|count| refused("equal cycles", squares(count)));
+    assert!(all <= nine + 16 * 55, "55 equal cycles more cost {all} steps in place of {nine}");
+    refused("empty cycles", empty);
+    refused("counts of 2^32 - 1", Given { cycles: u32::MAX, corner_count: u32::MAX, ..squares(1) });
+    println!("the longest of some acceptances took {longest} steps");
     cases.end();
 }
 

@@ -64,10 +64,10 @@ fn cycles(given: Given<'_>) -> impl Iterator<Item = (u32, &[u32])> {
     given.owners.iter().copied().zip(stretches)
 }
 
-/// Stores 1 plus its owner on the right of each northward leg. An image has no more unit sides than four a pixel.
+/// Stores 1 plus its owner on the right of each northward leg. An image has no more northward unit sides than pixels.
 fn store(map: &mut Map, given: Given) -> bool {
     let side = 1 << map.n;
-    let mut left = 4 * map.cells.len();
+    let mut left = map.cells.len();
     map.cells.fill(0);
     for (owner, corners) in cycles(given) {
         let Some(&last) = corners.last() else { return false };

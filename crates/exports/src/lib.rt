@@ -315,9 +315,9 @@ pub extern "C" fn nettlestair_blocks_from_outlines(
     regions: u32,
     cycles: u32,
     corner_count: u32,
-    owners: &[u32],
-    ends: &[u32],
-    corners: &[u32],
+    given_owners: &[u32],
+    given_ends: &[u32],
+    given_corners: &[u32],
     region_colours: &[u16],
     codes: &mut [u32],
     levels: &mut [u8],
@@ -325,19 +325,19 @@ pub extern "C" fn nettlestair_blocks_from_outlines(
     work: &mut [u32],
 ) -> Written
     ensures { λ r. ⌜ Restoring n
-        (givenAs regions cycles «corner_count» (outlineLists (now (owners .entry)) (now (ends .entry)) (now (corners .entry)) (now («region_colours» .entry))))
+        (givenAs regions cycles «corner_count» (outlineLists (now («given_owners» .entry)) (now («given_ends» .entry)) (now («given_corners» .entry)) (now («region_colours» .entry))))
         (listOf (now (codes .entry)) (now (levels .entry)) (now (colours .entry))) (now (work .entry))
         (listOf (now (codes .exit)) (now (levels .exit)) (now (colours .exit))) (now (work .exit))
         (record { number = r .number; count = r .count }) ⌝ }
 {
-    let restored = restoring::blocks_from_outlines(
+    let blocks = restoring::blocks_from_outlines(
         n,
         regions,
         cycles,
         corner_count,
-        owners,
-        ends,
-        corners,
+        given_owners,
+        given_ends,
+        given_corners,
         region_colours,
         codes,
         levels,
@@ -345,8 +345,8 @@ pub extern "C" fn nettlestair_blocks_from_outlines(
         work,
     );
     Written {
-        number: restored.number,
-        count: restored.count,
+        number: blocks.number,
+        count: blocks.count,
     }
 }
 

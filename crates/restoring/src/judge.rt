@@ -65,11 +65,14 @@ pub(crate) fn has_image(
     if !lists_agree(n, owners, ends, corners, region_colours) {
         return false;
     }
-    if !west_sides::tell_regions(n, region_colours.len(), owners, ends, corners, work) {
+    let told = west_sides::tell_regions(n, region_colours.len(), owners, ends, corners, work);
+    if !told {
         return false;
     }
-    if !pixel_numbers::numbers_agree(n, region_colours, work) {
+    let numbered = pixel_numbers::numbers_agree(n, region_colours, work);
+    if !numbered {
         return false;
     }
-    retracing::cycles_agree(n, owners, ends, corners, work)
+    let listed = retracing::cycles_agree(n, owners, ends, corners, work);
+    listed
 }
