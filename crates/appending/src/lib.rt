@@ -1,5 +1,7 @@
 // Pieces of an image appended in code order. One run of one colour is pending; when it ends it is written as its squares, each entry
 // once.
+#![tactic(auto)]
+
 ghost use Rattle.std.specs.Prelude.{◌≡◌};
 ghost use Rattle.runs.specs.Squares.{level_in};
 ghost use Rattle.runs.specs.Runs.{piece};
@@ -8,7 +10,7 @@ ghost use Rattle.appending.specs.Levels.{RunIn};
 ghost use Rattle.appending.specs.Appended.{Writable, RunWritten, Appendable, Appended};
 
 // The pending run, whose pixels have the codes from `from` to before `to`, and how many blocks are written before it.
-#[derive(Drop)]
+#[derive(Clone, Copy)]
 pub struct Pending {
     pub from: usize,
     pub to: usize,

@@ -1,4 +1,6 @@
 // The check of a block list.
+#![tactic(auto)]
+
 ghost use Rattle.std.specs.Prelude.{◌≡◌};
 ghost use Rattle.quadtree.specs.Number.{number};
 

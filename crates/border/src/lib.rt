@@ -1,5 +1,7 @@
 // The walk over the blocks with the border between done and not done: in the first 2^n entries of the work list the last
 // block done in each column, in the next 2^n the last block done in each row.
+#![tactic(auto)]
+
 ghost use Rattle.std.specs.Prelude.{◌≡◌, ◌+◌};
 ghost use Rattle.sequences.specs.Fill.{fill};
 ghost use Rattle.unions.specs.Roots.{root};

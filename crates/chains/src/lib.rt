@@ -1,4 +1,6 @@
 // The corners of a chain code (document 01, "Path, chain and picture").
+#![tactic(auto)]
+
 ghost use Rattle.chains.specs.ChainForm.{ChainRead};
 
 use answers::Written;

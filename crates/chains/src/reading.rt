@@ -11,7 +11,7 @@ ghost use Rattle.chains.specs.Following.{LeadsBack, TurnPut};
 use lattice::right;
 
 // What bytes give that are followed: no chain, or how many corners they have.
-#[derive(Drop)]
+#[derive(Clone, Copy)]
 pub enum Followed {
     NoChain,
     Corners(usize),

@@ -1,4 +1,6 @@
 // A cursor in a block list: where its block ends, and the place that it goes on to; the smaller of two numbers.
+#![tactic(auto)]
+
 ghost use Rattle.std.specs.Prelude.{◌≡◌, ◌+◌, ◌^◌, ◌≤◌, ◌<◌, min};
 ghost use Rattle.cursors.specs.Cursors.{next_place};
 

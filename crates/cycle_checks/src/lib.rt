@@ -1,4 +1,6 @@
 // One given cycle checked against a map of regions: walked by the rule of steps from its first corner, and compared corner by corner.
+#![tactic(auto)]
+
 ghost use Rattle.std.specs.Prelude.{◌≡◌, ◌<◌};
 ghost use Rattle.interleaving.specs.Spreads.{spreads};
 ghost use Rattle.lattice.specs.Directions.{point, edge};
@@ -28,7 +30,7 @@ fn mark_east(map: &mut [u32], side: u32, r: u32, x: u32, y: u32, d: u8)
 }
 
 // A unit edge: its tail (x, y) and its digit d.
-#[derive(Drop)]
+#[derive(Clone, Copy)]
 struct Edge {
     x: u32,
     y: u32,

@@ -1,4 +1,6 @@
 // One cycle walked by the rule of steps: its corners written, its area added up, its eastward edges marked.
+#![tactic(auto)]
+
 ghost use Rattle.std.specs.Prelude.{◌≡◌, ◌%◌, ◌≤◌, ◌<◌};
 ghost use Rattle.interleaving.specs.Codes.{code};
 ghost use Rattle.lattice.specs.Directions.{point, edge};
@@ -23,7 +25,7 @@ fn mark_east(map: &mut [u32], side: u32, r: u32, x: u32, y: u32, d: u8)
 }
 
 // A unit edge: its tail (x, y) and its digit d.
-#[derive(Drop)]
+#[derive(Clone, Copy)]
 struct Edge {
     x: u32,
     y: u32,
@@ -83,7 +85,7 @@ fn leg_area(x: u32, y: u32, z: u32) -> i32
 }
 
 // A cycle that was walked: how many corners were written, and its area.
-#[derive(Drop)]
+#[derive(Clone, Copy)]
 pub struct Walked {
     pub corners: usize,
     pub area: i32,

@@ -1,1 +1,2 @@
 // Numbers in decimal digits: theory only.
+#![tactic(auto)]

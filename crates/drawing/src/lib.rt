@@ -1,4 +1,6 @@
 // From a raster to the lines of its outlines, with all lists of the way in local arrays.
+#![tactic(auto)]
+
 ghost use Rattle.quadtree.specs.Blocks.{blocks, paint};
 ghost use Rattle.quadtree.specs.Raster.{in_code_order};
 ghost use Rattle.answers.specs.Put.{Put};

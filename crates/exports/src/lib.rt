@@ -1,5 +1,7 @@
 // The functions of the libraries under C names, for the tests and for programs in C and Rust (include/nettlestair.h).
 // Each hands its arguments on and carries the library's promise.
+#![tactic(auto)]
+
 ghost use Rattle.std.specs.Prelude.{◌≡◌};
 ghost use Rattle.interleaving.specs.Codes.{code};
 ghost use Rattle.quadtree.specs.Number.{number};
@@ -27,7 +29,7 @@ use serving::{Opened, State, Turned};
 
 // The number of an answer, 0 for acceptance, and how many entries were written.
 #[repr(C)]
-#[derive(Drop)]
+#[derive(Clone, Copy)]
 pub struct Written {
     pub number: u32,
     pub count: u32,
@@ -35,7 +37,7 @@ pub struct Written {
 
 // The number of an answer, 0 for acceptance, and how many regions there are.
 #[repr(C)]
-#[derive(Drop)]
+#[derive(Clone, Copy)]
 pub struct Numbered {
     pub number: u32,
     pub regions: u32,
@@ -43,7 +45,7 @@ pub struct Numbered {
 
 // The number of an answer, 0 for acceptance, and how many regions, cycles and corners there are.
 #[repr(C)]
-#[derive(Drop)]
+#[derive(Clone, Copy)]
 pub struct Traced {
     pub number: u32,
     pub regions: u32,
@@ -53,7 +55,7 @@ pub struct Traced {
 
 // A part of a lent list, by its place and length.
 #[repr(C)]
-#[derive(Drop)]
+#[derive(Clone, Copy)]
 pub struct Stretch {
     pub start: usize,
     pub length: usize,
@@ -61,7 +63,7 @@ pub struct Stretch {
 
 // What the reader of pictures answers: the number, n, maxval and how many samples were written.
 #[repr(C)]
-#[derive(Drop)]
+#[derive(Clone, Copy)]
 pub struct Picture {
     pub number: u32,
     pub n: u32,

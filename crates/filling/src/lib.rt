@@ -1,4 +1,6 @@
 // One number stored along a stretch of a list.
+#![tactic(auto)]
+
 ghost use Rattle.std.specs.Prelude.{◌≡◌, ◌+◌, ◌≤◌, length};
 ghost use Rattle.sequences.specs.Fill.{fill};
 

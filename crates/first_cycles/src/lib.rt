@@ -1,4 +1,6 @@
 // The first cycle of a region walked by the rule of steps: the pixels north of its westward edges marked.
+#![tactic(auto)]
+
 ghost use Rattle.std.specs.Prelude.{◌≡◌, ◌%◌, ◌<◌};
 ghost use Rattle.interleaving.specs.Codes.{code};
 ghost use Rattle.lattice.specs.Directions.{point, edge};
@@ -24,7 +26,7 @@ fn mark_west(map: &mut [u32], side: u32, r: u32, x: u32, y: u32, d: u8)
 }
 
 // A unit edge: its tail (x, y) and its digit d.
-#[derive(Drop)]
+#[derive(Clone, Copy)]
 struct Edge {
     x: u32,
     y: u32,

@@ -1,4 +1,6 @@
 // The test of cycle form (cause 16).
+#![tactic(auto)]
+
 ghost use Rattle.std.specs.Prelude.{◌≡◌, ◌<◌, length};
 ghost use Rattle.lattice.specs.CycleForm.{inside, all_inside, along, steps, cycle_form};
 

@@ -1,4 +1,6 @@
 // The header of a PGM file: a cursor by value goes through the bytes, and each step answers an enum.
+#![tactic(auto)]
+
 mod number;
 mod space;
 mod step;
@@ -12,7 +14,7 @@ pub use step::Cursor;
 use step::Past;
 
 // A whole header, and the place of the raster.
-#[derive(Drop)]
+#[derive(Clone, Copy)]
 pub enum Header {
     Bad,
     Fields {

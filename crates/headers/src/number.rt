@@ -6,7 +6,7 @@ ghost use Rattle.headers.specs.Steps.{Numbers, stopped};
 use crate::step::Cursor;
 
 // A number, and the place past it.
-#[derive(Drop)]
+#[derive(Clone, Copy)]
 pub enum Number {
     Bad,
     Value(u32, Cursor),

@@ -4,13 +4,13 @@ ghost use Rattle.headers.specs.Parser.{byte};
 ghost use Rattle.headers.specs.Steps.{Passes};
 
 // The place of the next byte.
-#[derive(Drop)]
+#[derive(Clone, Copy)]
 pub struct Cursor {
     pub at: usize,
 }
 
 // Bytes that had to be there, and the place past them.
-#[derive(Drop)]
+#[derive(Clone, Copy)]
 pub enum Past {
     Bad,
     At(Cursor),

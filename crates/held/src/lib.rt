@@ -1,1 +1,2 @@
 // No code: the cycles that an owner, an end and a corner list hold.
+#![tactic(auto)]

@@ -1,4 +1,6 @@
 // The binary digits of location codes: those of x and y interleaved, by a table of spread numbers, and gathered from a code.
+#![tactic(auto)]
+
 ghost use Rattle.std.specs.Prelude.{◌≡◌, ◌+◌, ◌*◌, ◌/◌, ◌%◌, ◌^◌, ◌<◌};
 ghost use Rattle.interleaving.specs.Codes.{code, column, row};
 ghost use Rattle.interleaving.specs.Spreads.{spread, spreads};

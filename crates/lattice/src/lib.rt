@@ -1,4 +1,6 @@
 // Lattice points, directions and walks along unit edges: what outlines, path data and chain codes share.
+#![tactic(auto)]
+
 ghost use Rattle.std.specs.Prelude.{◌≡◌};
 ghost use Rattle.lattice.specs.Directions.{right_of};
 

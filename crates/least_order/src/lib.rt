@@ -1,5 +1,7 @@
 // The least order of the regions of a block list from the inside out: each region before every region that surrounds it, with the least
 // possible number at the first place, then at the second, and so on.
+#![tactic(auto)]
+
 ghost use Rattle.least_order.specs.Counts.{CanCountOne, CountedOne, CanCount, Counted};
 ghost use Rattle.least_order.specs.Arranged.{CanRise, Risen, CanPlace, Placed, CanArrange, Arranged};
 ghost use Rattle.least_order.specs.Regions.{Arrangeable, OrderWritten};

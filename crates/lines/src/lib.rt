@@ -1,4 +1,6 @@
 // The lines of a listing: the path data of its cycles, one after the other, with LF after the last of each region.
+#![tactic(auto)]
+
 ghost use Rattle.std.specs.Prelude.{◌≡◌, ◌<◌, ◌≤◌, length};
 ghost use Rattle.answers.specs.Put.{Put};
 ghost use Rattle.lines.specs.Lines.{by_cycles};

@@ -1,4 +1,6 @@
 // The cycles listed, region after region, along the chain of each region's blocks.
+#![tactic(auto)]
+
 ghost use Rattle.starts.specs.Progress.{state, entry_state, exit_state, none_counted};
 ghost use Rattle.listing.specs.Chains.{ChainNext, ChainListed};
 ghost use Rattle.listing.specs.MapAndLinks.{MapAndLinks, entry_blocks};
@@ -37,7 +39,7 @@ fn list_region(
 }
 
 // What the pass over the blocks has reached: how many regions are listed, and how many cycles and corners of theirs.
-#[derive(Drop)]
+#[derive(Clone, Copy)]
 struct Reached {
     pub regions: u32,
     pub counts: Counts,

@@ -1,4 +1,6 @@
 // Location codes and levels: the arithmetic of section 2's quadrants, below everything that knows blocks.
+#![tactic(auto)]
+
 pub mod table;
 
 ghost use Rattle.std.specs.Prelude.{◌≡◌};

@@ -1,5 +1,7 @@
 // The block list of a map of regions with a colour for each. The pixels come by squares of side 2 in code order: a square of one colour goes
 // to the run that is pending; any other ends the run and is four blocks of one pixel.
+#![tactic(auto)]
+
 ghost use Rattle.std.specs.Prelude.{◌≡◌, ◌+◌, ◌-◌, ◌%◌, ◌≤◌, ◌<◌, length, get_or};
 ghost use Rattle.quadtree.specs.BlockLists.{list_of};
 ghost use Rattle.runs.specs.Stored.{stored};

@@ -1,5 +1,7 @@
 // The map of regions and the links of their blocks, as the listing wants them in the work list. The map has 1 plus the label of each block
 // on all pixels of its square, row by row; where MARK_BIT of steps is added, the pixel's north side is an edge of a cycle that is written.
+#![tactic(auto)]
+
 ghost use Rattle.std.specs.Prelude.{◌≡◌, ◌≤◌, length};
 ghost use Rattle.sequences.specs.Over.{over};
 ghost use Rattle.quadtree.specs.Raster.{in_rows};

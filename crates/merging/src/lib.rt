@@ -1,4 +1,6 @@
 // A raster merged into the block list of its quadtree.
+#![tactic(auto)]
+
 ghost use Rattle.std.specs.Prelude.{◌≡◌, min};
 ghost use Rattle.merging.specs.Promise.{FromRaster};
 

@@ -1,4 +1,6 @@
 // Whether an order of the regions of a block list goes from the inside out: each surrounded region before each region that surrounds it.
+#![tactic(auto)]
+
 ghost use Rattle.std.specs.Prelude.{◌≡◌, length};
 ghost use Rattle.forests.specs.Checking.{is_each_once};
 ghost use Rattle.order_check.specs.Along.{Blank, NewMarked, Families, parent_marked, NumberOf, LaterMarked};

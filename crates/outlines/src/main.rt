@@ -1,5 +1,7 @@
 // The program: a P5 file of at most 16,384 bytes on standard input, and its outlines as path data, one line a region, on standard
 // output.
+#![tactic(auto)]
+
 ghost use Rattle.printing.specs.declared.order.Order.{Order};
 ghost use Rattle.program.specs.Ran.{Room, Ran};
 

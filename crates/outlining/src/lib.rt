@@ -1,4 +1,6 @@
 // The outlines of labelled blocks: a map of region numbers, and a walk along each cycle that writes its corners and adds up its area.
+#![tactic(auto)]
+
 ghost use Rattle.starts.specs.Progress.{state, none_counted};
 ghost use Rattle.listing.specs.MapAndLinks.{entry_blocks};
 ghost use Rattle.outlining.specs.Outlining.{Outlinable, Outlined};

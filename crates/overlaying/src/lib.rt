@@ -1,4 +1,6 @@
 // One block list laid over another: the merged list whose every pixel has the larger of the two colours.
+#![tactic(auto)]
+
 ghost use Rattle.quadtree.specs.BlockLists.{list_of};
 ghost use Rattle.overlaying.specs.Promise.{Overlay};
 

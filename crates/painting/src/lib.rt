@@ -1,4 +1,6 @@
 // A block list painted as a raster.
+#![tactic(auto)]
+
 ghost use Rattle.painting.specs.Promise.{ToRaster};
 
 use answers::Written;

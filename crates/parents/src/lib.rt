@@ -1,5 +1,7 @@
 // The parent of each region of labelled blocks: the innermost region that surrounds it. The region north of a region's least pixel is its
 // parent, unless the side between them lies in that region's first cycle: then both have one parent.
+#![tactic(auto)]
+
 ghost use Rattle.std.specs.Prelude.{◌≡◌, ◌≤◌, length, get_or};
 ghost use Rattle.sequences.specs.Over.{over};
 ghost use Rattle.interleaving.specs.Codes.{code};

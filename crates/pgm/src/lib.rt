@@ -1,4 +1,6 @@
 // The reader of binary PGM (Netpbm, magic P5): the causes 10 to 14 and 8, and the samples stored in a lent raster.
+#![tactic(auto)]
+
 mod samples;
 mod shape;
 
@@ -10,7 +12,7 @@ use headers::Header;
 use shape::Shape;
 
 // Number 0 with n, maxval and how many samples were stored; or the number of a refusal with zeros.
-#[derive(Drop)]
+#[derive(Clone, Copy)]
 pub struct Picture {
     pub number: u32,
     pub n: u32,

@@ -5,7 +5,7 @@ ghost use Rattle.pgm.specs.Samples.{sample_bytes};
 ghost use Rattle.pgm.specs.Shaped.{shaped};
 
 // A side that is a power of two from 1 to 256, by its exponent, or another.
-#[derive(Drop)]
+#[derive(Clone, Copy)]
 pub enum PowerOfTwo {
     Other,
     Power(u32),
@@ -28,7 +28,7 @@ fn exponent(width: u32) -> PowerOfTwo
 }
 
 // A picture by its n, the number of its samples and whether each is two bytes; or the number of a refusal.
-#[derive(Drop)]
+#[derive(Clone, Copy)]
 pub enum Shape {
     Refused(u32),
     Samples { n: u32, count: usize, wide: bool },

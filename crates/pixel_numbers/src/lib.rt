@@ -1,5 +1,7 @@
 // Whether the numbers that a map holds are the region numbers of an image, pixel by pixel: neighbours of one colour are joined, and the
 // roots, numbered from the front, are compared with the map.
+#![tactic(auto)]
+
 ghost use Rattle.std.specs.Prelude.{◌≡◌, true, ◌↔◌, ◌-◌, get_or};
 ghost use Rattle.interleaving.specs.Codes.{code};
 ghost use Rattle.cycles.specs.Mapped.{nums_of};

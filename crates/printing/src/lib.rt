@@ -1,4 +1,6 @@
 // The text that a program prints for a P5 file: the path data of the outlines, one line a region, or the line of a refusal.
+#![tactic(auto)]
+
 mod order;
 mod refusal;
 

@@ -5,7 +5,7 @@ ghost use Rattle.drawing.specs.Picturing.{RasterFits};
 ghost use Rattle.printing.specs.Printed.{image_of};
 
 // Row by row, north row first; or in block order, which is rising location code.
-#[derive(Drop)]
+#[derive(Clone, Copy)]
 pub enum Order {
     Rows,
     BlockOrder,

@@ -1,4 +1,6 @@
 // What both programs do: a P5 file on standard input, and its outlines as path data, one line a region, on standard output.
+#![tactic(auto)]
+
 ghost use Rattle.std.specs.Prelude.{◌≤◌, length, take};
 ghost use Rattle.io.specs.Counts.{IsPrefixLen};
 ghost use Rattle.answers.specs.Put.{Put};

@@ -1,4 +1,6 @@
 // Rasters rearranged: row by row into rising location code, which is block order, and back.
+#![tactic(auto)]
+
 ghost use Rattle.std.specs.Prelude.{◌≡◌};
 ghost use Rattle.rearranging.specs.Ways.{to_block_order, to_rows};
 ghost use Rattle.rearranging.specs.Promise.{rearrange_number, Rearranging};

@@ -1,11 +1,13 @@
 // Region numbers of a block list: one walk over its blocks with the border between done and not done, then one pass that
 // turns roots into numbers.
+#![tactic(auto)]
+
 ghost use Rattle.std.specs.Prelude.{◌≡◌};
 ghost use Rattle.regions.specs.Promise.{Numbering};
 ghost use Rattle.regions.specs.Labelling.{Numberable, LabelsFound};
 
 // The number of an answer, 0 for acceptance, and how many regions there are.
-#[derive(Drop)]
+#[derive(Clone, Copy)]
 pub struct Numbered {
     pub number: u32,
     pub regions: u32,

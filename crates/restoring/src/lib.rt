@@ -1,4 +1,6 @@
 // The block list of the only image that has given outlines and region colours.
+#![tactic(auto)]
+
 ghost use Rattle.std.specs.Prelude.{◌≡◌, ◌≤◌, length};
 ghost use Rattle.sequences.specs.Fill.{fill};
 ghost use Rattle.quadtree.specs.BlockLists.{list_of};

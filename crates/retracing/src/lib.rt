@@ -1,4 +1,6 @@
 // Whether given cycles are the outlines of a map of regions: each is walked and compared, they stand in order, and no edge is left over.
+#![tactic(auto)]
+
 ghost use Rattle.std.specs.Prelude.{◌≡◌, ◌≤◌, ◌<◌, length};
 ghost use Rattle.interleaving.specs.Codes.{code};
 ghost use Rattle.interleaving.specs.Spreads.{spreads};

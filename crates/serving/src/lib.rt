@@ -1,4 +1,6 @@
 // Outlines open at the cutter, served by turns (document 02, request k). A state goes in by value and comes back; nothing is allocated.
+#![tactic(auto)]
+
 ghost use Rattle.std.specs.Prelude.{◌≡◌, [], ◌∷◌, ◌++◌, ◌+◌, ◌-◌, ◌≤◌, ◌<◌, min, length, take, drop};
 ghost use Rattle.serving.specs.Queue.{is_open, lists, after_serving};
 ghost use Rattle.serving.specs.States.{unused, in_eight, front, state_of, in_sixteen};
@@ -7,7 +9,7 @@ ghost use Rattle.serving.specs.Promise.{Opening, Turning};
 
 // An open outline: its cycle, and how many of its corners were handed out.
 #[repr(C)]
-#[derive(Drop)]
+#[derive(Clone, Copy)]
 pub struct OpenOutline {
     pub cycle: u32,
     pub handed: u32,
@@ -15,7 +17,7 @@ pub struct OpenOutline {
 
 // The outlines that are open, from the front to the back: those in the first `length` places, eight at most.
 #[repr(C)]
-#[derive(Drop)]
+#[derive(Clone, Copy)]
 pub struct State {
     pub outlines: [OpenOutline; 8],
     pub length: u32,
@@ -29,7 +31,7 @@ const UNUSED: OpenOutline = OpenOutline {
 
 // What an opening answers: its number, 0 for acceptance, and the state.
 #[repr(C)]
-#[derive(Drop)]
+#[derive(Clone, Copy)]
 pub struct Opened {
     pub number: u32,
     pub state: State,
@@ -37,7 +39,7 @@ pub struct Opened {
 
 // What a turn answers: whether one was served, how many corners were handed out, of which cycle, these corners, and the state.
 #[repr(C)]
-#[derive(Drop)]
+#[derive(Clone, Copy)]
 pub struct Turned {
     pub served: bool,
     pub count: u32,

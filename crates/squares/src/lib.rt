@@ -1,4 +1,6 @@
 // Squares in the rows of a raster: four pixels stored at once.
+#![tactic(auto)]
+
 ghost use Rattle.std.specs.Prelude.{◌≡◌, ◌+◌, ◌≤◌, ◌<◌, length};
 ghost use Rattle.squares.specs.Fours.{four_stored};
 

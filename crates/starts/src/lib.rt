@@ -1,4 +1,6 @@
 // The cycles that start in one block, listed: only at pixels of its top row can one start.
+#![tactic(auto)]
+
 ghost use Rattle.std.specs.Prelude.{◌∷◌, []};
 ghost use Rattle.interleaving.specs.Codes.{code};
 ghost use Rattle.links.specs.TopRows.{row_from};
@@ -12,7 +14,7 @@ use cycles::write_cycle;
 use steps::MARK_BIT;
 
 // How many cycles and how many corners are written.
-#[derive(Drop)]
+#[derive(Clone, Copy)]
 pub struct Counts {
     pub cycles: usize,
     pub corners: usize,

@@ -1,5 +1,7 @@
 // The rule of steps on a map of regions: the pixels around a lattice point, the next direction, and the next point. The map is a list of
 // rows without a margin.
+#![tactic(auto)]
+
 ghost use Rattle.std.specs.Prelude.{◌≡◌, ◌<◌};
 ghost use Rattle.lattice.specs.Directions.{point};
 ghost use Rattle.grid.specs.Map.{around};

@@ -1,9 +1,11 @@
 // The stretch of a corner list that holds one cycle (document 01, "Outlines").
+#![tactic(auto)]
+
 ghost use Rattle.std.specs.Prelude.{◌≡◌, ◌<◌, length};
 ghost use Rattle.stretches.specs.Stretch.{Place, Part, begin_of};
 
 // Where a part of a list starts and how long it is.
-#[derive(Drop)]
+#[derive(Clone, Copy)]
 pub struct Stretch {
     pub start: usize,
     pub length: usize,

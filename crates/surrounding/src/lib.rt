@@ -1,1 +1,2 @@
 // Which regions surround which, and orders of regions from the inside out. There is no code here.
+#![tactic(auto)]

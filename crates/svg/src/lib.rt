@@ -1,4 +1,6 @@
 // One outline as SVG path data (document 01, "Path, chain and picture").
+#![tactic(auto)]
+
 ghost use Rattle.svg.specs.Svg.{Svg};
 
 use answers::Written;

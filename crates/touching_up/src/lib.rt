@@ -1,4 +1,6 @@
 // One pixel of a block list touched up: the merged list of the image with that pixel alone changed.
+#![tactic(auto)]
+
 ghost use Rattle.std.specs.Prelude.{◌≡◌};
 ghost use Rattle.quadtree.specs.BlockLists.{list_of};
 ghost use Rattle.touching_up.specs.Promise.{outside, TouchUp};

@@ -1,9 +1,11 @@
 // The outlines of all regions of a block list.
+#![tactic(auto)]
+
 ghost use Rattle.std.specs.Prelude.{◌≡◌, ◌≤◌};
 ghost use Rattle.tracing.specs.Tracing.{lent, is_too_short, unfit_number, Tracing};
 
 // The number of an answer, 0 for acceptance, and the counts of regions, of cycles and of the corners of all cycles.
-#[derive(Drop)]
+#[derive(Clone, Copy)]
 pub struct Traced {
     pub number: u32,
     pub regions: u32,

@@ -1,4 +1,6 @@
 // Squares of a raster: whether they have one colour.
+#![tactic(auto)]
+
 ghost use Rattle.std.specs.Prelude.{◌≡◌, ◌+◌, ◌≤◌, length};
 ghost use Rattle.quadtree.specs.Quadtree.{alike};
 ghost use Rattle.squares.specs.Rows.{RowsFit};

@@ -1,5 +1,7 @@
 // A forest as a list of parents, none above its child: each place alone, two places joined, and numbers for the trees, in place of the
 // parents.
+#![tactic(auto)]
+
 ghost use Rattle.std.specs.Prelude.{◌≡◌, ◌≤◌, ◌<◌, length, get_or};
 ghost use Rattle.sequences.specs.Ranges.{range};
 ghost use Rattle.unions.specs.Pairs.{pair_of};

@@ -1,5 +1,7 @@
 // The region of each pixel told by the northward edges of given cycles: such an edge says the region of the pixel on its right, which is the
 // owner of its cycle; any other pixel is in the region of its west neighbour.
+#![tactic(auto)]
+
 ghost use Rattle.std.specs.Prelude.{◌≡◌, ◌-◌, ◌*◌, ◌≤◌, ◌<◌, length};
 ghost use Rattle.sequences.specs.Cases.{first};
 ghost use Rattle.lattice.specs.Directions.{point};
@@ -28,7 +30,7 @@ fn store_north(map: &mut [u32], side: usize, x: usize, from: usize, to: usize, r
 
 // Whether edges were stored, and how many northward units may still be, so that legs of any length cost no more than an image has pixels.
 // Where they were not stored, the units and what the map holds are free.
-#[derive(Drop)]
+#[derive(Clone, Copy)]
 struct Left {
     ok: bool,
     units: usize,
