@@ -1,0 +1,47 @@
+-- The tests are the parts of cause 7; a code's alignment tells whether it begins a block one level up.
+use borrow.Author.Tests.{not-true, not-false}
+use Rattle.blocks.specs.Siblings.{not_below_n, not_first_child, not_one_level, one_colour_lem, more-colours}
+use native.Mathlib.Omega.{arith}
+use mathlib.Core.Path.{sym, ◌∙◌}
+use Rattle.blocks.proofs.covering.stride.Goals as goal
+
+pub overflow_cast-level : goal.overflow_cast-level
+overflow_cast-level c = omega (arith, c.shared_slice_known-4-1.given c.before.before.before.before.args.i)
+
+pub returns-then-n-level : goal.returns-then-n-level
+returns-then-n-level c =
+    let a = c.before.before.before.before.before.args in
+    not_below_n a.n a.codes.now a.levels.now a.colours.now a.i c.if-n-level.true
+
+pub returns-then-alignment-level : goal.returns-then-alignment-level
+returns-then-alignment-level c =
+    let low = c.before.before.before in
+    let start = low.before.before.before.before.before in
+    let a = start.args in
+    not_first_child a.n a.codes.now a.levels.now a.colours.now a.i
+    (omega (arith, low.if-n-level.false, start.requires.0)) (omega (arith, c.before.alignment.ensures, c.if-alignment-level.true))
+
+pub returns-then-not-levels_alike : goal.returns-then-not-levels_alike
+returns-then-not-levels_alike c =
+    let a = c.before.before.before.before.before.before.before.before.before.before.args in
+    not_one_level a.n a.codes.now a.levels.now a.colours.now a.i (sym c.before.levels_alike.ensures ∙ not-true _ c.if-not-levels_alike.true)
+
+pub returns-then-colours_alike : goal.returns-then-colours_alike
+returns-then-colours_alike c =
+    let one-level = c.before.before in
+    let aligned = one-level.before.before in
+    let low = aligned.before.before.before in
+    let a = low.before.before.before.before.before.args in
+    one_colour_lem a.n a.codes.now a.levels.now a.colours.now a.i
+    low.if-n-level.false (omega (arith, aligned.before.alignment.ensures, aligned.if-alignment-level.false))
+    (sym one-level.before.levels_alike.ensures ∙ not-false _ one-level.if-not-levels_alike.false) (sym c.before.colours_alike.ensures ∙ c.if-colours_alike.true)
+
+pub returns : goal.returns
+returns c =
+    let one-level = c.before.before in
+    let aligned = one-level.before.before in
+    let low = aligned.before.before.before in
+    let a = low.before.before.before.before.before.args in
+    more-colours a.n a.codes.now a.levels.now a.colours.now a.i
+    low.if-n-level.false (omega (arith, aligned.before.alignment.ensures, aligned.if-alignment-level.false))
+    (sym one-level.before.levels_alike.ensures ∙ not-false _ one-level.if-not-levels_alike.false) (sym c.before.colours_alike.ensures ∙ c.if-colours_alike.false)

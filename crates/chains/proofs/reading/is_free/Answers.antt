@@ -1,0 +1,24 @@
+-- The digit tells which coordinate is compared.
+use mathlib.Core.Path.{◌≡◌, sym, ap}
+use native.Mathlib.Omega.{arith}
+use Rattle.lattice.specs.Directions.{x_of, y_of}
+use Rattle.chains.specs.ChainForm.{free}
+use Rattle.chains.proofs.reading.is_free.Goals as goal
+
+pub returns-in-0 : goal.returns-in-0
+unfolding free x_of y_of
+returns-in-0 c = sym (ap (λ d. free d c.before.args.p) c.in-0.keys1)
+
+pub returns-in-1 : goal.returns-in-1
+unfolding free x_of y_of
+returns-in-1 c = sym (ap (λ d. free d c.before.args.p) c.in-0.keys2)
+
+pub returns-in-2 : goal.returns-in-2
+unfolding free x_of y_of
+returns-in-2 c = sym (ap (λ d. free d c.before.args.p) c.in-0.keys3)
+
+pub returns-in_default : goal.returns-in_default
+unfolding free x_of y_of
+returns-in_default c =
+    let e : c.before.args.d ≡ 3 = omega (arith, c.in-0.rest.0.0.1, c.in-0.rest.0.1, c.in-0.rest.1, c.before.requires) in
+    sym (ap (λ d. free d c.before.args.p) e)

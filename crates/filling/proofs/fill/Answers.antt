@@ -1,0 +1,12 @@
+use Rattle.sequences.specs.Fill.{begin, again, finish}
+use Prim.Native.Nat.{◌-◌}
+use Rattle.filling.proofs.fill.Goals as goal
+
+pub loop-i-init : goal.loop-i-init
+loop-i-init c = begin _ _ _ _
+
+pub loop-i-preserved : goal.loop-i-preserved
+loop-i-preserved c = again c.before.loop-i.invariant c.loop-i-test.true
+
+pub returns : goal.returns
+returns c = finish c.before.loop-i.invariant c.loop-i-test.false

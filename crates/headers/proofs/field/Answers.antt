@@ -1,0 +1,17 @@
+-- White space, then a number, whose place lies inside the bytes.
+use mathlib.Core.Path.{sym}
+use native.Mathlib.Omega.{arith}
+use Rattle.headers.specs.Header.{field_over}
+use Rattle.headers.specs.Sequence.{past-bad, past_on, past-inside}
+use Rattle.headers.proofs.field.Goals as goal
+
+pub returns-in_default : goal.returns-in_default
+unfolding field_over
+returns-in_default c = record { says = sym (past-bad c.before.before.spaces.ensures c.enum_told-1.given.1 _); inside = omega arith }
+
+pub parse-requires : goal.parse-requires
+parse-requires c = past-inside c.before.before.before.spaces.ensures c.before.next-1.given.1
+
+pub returns : goal.returns
+unfolding field_over
+returns c = rw (past_on c.before.before.before.before.spaces.ensures c.before.before.next-1.given.1) c.parse.ensures

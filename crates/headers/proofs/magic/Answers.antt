@@ -1,0 +1,14 @@
+-- P, then 5: a refused step refuses the rest, and a passed one leaves the rest to the next.
+use mathlib.Core.Path.{sym}
+use native.Mathlib.Omega.{arith}
+use Rattle.headers.specs.Header.{magic}
+use Rattle.headers.specs.Sequence.{past-bad, past_on}
+use Rattle.headers.proofs.magic.Goals as goal
+
+pub returns-in_default : goal.returns-in_default
+unfolding magic
+returns-in_default c = record { says = sym (past-bad c.before.before.exact.ensures c.enum_told-1.given.1 _); inside = omega arith }
+
+pub returns : goal.returns
+unfolding magic
+returns c = rw (past_on c.before.before.before.before.exact.ensures c.before.before.c-1.given.1) c.exact-2.ensures

@@ -1,0 +1,28 @@
+-- The corners are a cycle form and the text has room, so path data is written; LF then has room in the byte after it.
+use native.Mathlib.Omega.{arith}
+use Rattle.lines.specs.Writing.{end_room, put_plain, put_ended}
+use Rattle.lines.proofs.put_cycle.Goals as goal
+
+pub bounds-text-n : goal.bounds-text-n
+bounds-text-n c =
+    let called = c.before.before.before.before in
+    let start = called.before.before.before.before in
+    omega (arith, end_room start.requires called.svg-written.ensures, called.svg-written.auto.1.0)
+
+pub overflow_add-result : goal.overflow_add-result
+overflow_add-result c =
+    let called = c.before.before.before.before in
+    let start = called.before.before.before.before in
+    omega (arith, end_room start.requires called.svg-written.ensures, start.well-formed)
+
+pub returns-then-last : goal.returns-then-last
+returns-then-last c =
+    let called = c.before.before.before.before in
+    let start = called.before.before.before.before in
+    put_ended start.requires called.svg-written.ensures c.if-last.true
+
+pub returns : goal.returns
+returns c =
+    let called = c.before.before.before.before in
+    let start = called.before.before.before.before in
+    put_plain start.requires called.svg-written.ensures c.if-last.false

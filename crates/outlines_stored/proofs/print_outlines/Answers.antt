@@ -1,0 +1,5 @@
+-- The lists are handed on, and the run is one for this order.
+use Rattle.outlines_stored.proofs.print_outlines.Goals as goal
+
+pub returns : goal.returns
+returns c = c.before.before.before.before.run.ensures

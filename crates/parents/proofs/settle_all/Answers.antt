@@ -1,0 +1,48 @@
+use Prim.Native.Nat.{◌-◌, ◌<◌}
+use native.Mathlib.Omega.{arith}
+use lib.ListN.{length}
+use Rattle.parents.specs.Blocks.{begin, block_left, block-next, again, finish}
+use borrow.Author.Rules.{rules}
+use Rattle.parents.proofs.settle_all.Goals as goal
+
+-- ---- the places: the call, a turn of the loop, its block passed
+
+abbrev entry : goal.At-loop-s → goal.Start
+entry c = c.before.before.before.before
+
+abbrev passed : goal.After-slice_known-in-loop-s-1 → goal.After-settle_next-s
+passed c = c.before.before
+
+abbrev turn : goal.After-settle_next-s → goal.In-loop-s
+turn c = c.before.before
+
+-- ---- the needs
+pub loop-s-init : goal.loop-s-init
+
+loop-holds : goal.loop-s-init
+loop-s-init c = begin c.before.before.before.requires
+
+pub settle_next-s-requires : goal.settle_next-s-requires
+settle_next-s-requires c = let t = c.before in block-next (entry t.before).requires t.before.loop-s.invariant t.loop-s-test.true
+
+pub overflow_add-i : goal.overflow_add-i
+overflow_add-i c =
+    let t = turn (passed c) in
+    let h : t.before.loop-s.i < length (entry t.before).args.codes.now = block_left (entry t.before).requires t.before.loop-s.invariant t.loop-s-test.true in
+    search rules
+
+pub loop-s-smaller : goal.loop-s-smaller
+loop-s-smaller c =
+    let t = turn (passed c) in
+    omega (arith, block_left (entry t.before).requires t.before.loop-s.invariant t.loop-s-test.true)
+
+pub loop-s-preserved : goal.loop-s-preserved
+loop-s-preserved c =
+    let t = turn (passed c) in
+    again (entry t.before).requires t.before.loop-s.invariant t.loop-s-test.true (passed c).settle_next-s.ensures
+
+pub shape_of-work : goal.shape_of-work
+shape_of-work c = c.before.loop-s.invariant.long
+
+pub returns : goal.returns
+returns c = finish (entry c.before).requires c.before.loop-s.invariant c.loop-s-test.false

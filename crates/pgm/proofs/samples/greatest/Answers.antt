@@ -1,0 +1,12 @@
+-- The code is the definition.
+use mathlib.Core.Path.{sym, ap}
+use Rattle.pgm.specs.Samples.{greatest_of}
+use Rattle.pgm.proofs.samples.greatest.Goals as goal
+
+pub returns-then-wide : goal.returns-then-wide
+unfolding greatest_of
+returns-then-wide c = sym (ap greatest_of c.if-wide.true)
+
+pub returns : goal.returns
+unfolding greatest_of
+returns c = sym (ap greatest_of c.if-wide.false)

@@ -1,0 +1,28 @@
+use Prim.Native.Nat.{◌-◌}
+use native.Mathlib.Omega.{arith}
+use Rattle.pgm.proofs.Sampling.{room-of-each, stored_none, stored_more, stored-all}
+use Rattle.pgm.proofs.samples.store.Goals as goal
+
+pub loop-at-init : goal.loop-at-init
+loop-at-init c = stored_none _ _ _ _
+
+pub sample-requires : goal.sample-requires
+sample-requires c = room-of-each _ _ _ _ c.before.before.before.before.requires.0 c.loop-at-test.true
+
+pub offset_bounds-raster-at : goal.offset_bounds-raster-at
+offset_bounds-raster-at c = omega (arith, c.before.loop-at-test.true, c.before.before.before.before.before.requires.1, c.before.before.before.before.before.well-formed)
+
+pub bounds-raster-at : goal.bounds-raster-at
+bounds-raster-at c = omega (arith, c.before.loop-at-test.true, c.before.before.loop-at.invariant.long, c.before.before.before.before.before.requires.1)
+
+pub loop-at-preserved : goal.loop-at-preserved
+loop-at-preserved c =
+    let s = c.before.before.loop-at in
+    stored_more _ _ _ _ _ c.before.loop-at-test.true (omega (arith, c.before.loop-at-test.true, s.invariant.long, c.before.before.before.before.before.requires.1))
+    c.sample.ensures s.invariant
+
+pub shape_of-raster : goal.shape_of-raster
+shape_of-raster c = c.before.loop-at.invariant.long
+
+pub returns : goal.returns
+returns c = stored-all _ _ _ _ c.loop-at-test.false c.before.loop-at.invariant

@@ -1,0 +1,23 @@
+use mathlib.Core.Path.{◌≡◌, sym}
+use Prim.Native.Nat.{◌-◌}
+use native.Mathlib.Omega.{arith}
+use lib.ListN.{length}
+use Rattle.serving.specs.Loops.{search_begins, search_on, search_finds, search_ends}
+use Rattle.serving.proofs.is_open.Goals as goal
+
+pub loop-i-init : goal.loop-i-init
+loop-i-init c = search_begins
+
+pub returns-then-outline-cycle : goal.returns-then-outline-cycle
+returns-then-outline-cycle c =
+    let b = c.before.before.before.before in
+    let eight : length b.before.args.t1 ≡ 8 = omega (arith, b.before.well-formed.0) in
+    (sym (search_finds b.loop-i.invariant c.before.before.before.loop-i-test.true (omega (arith, eight)) c.if-outline-cycle.true), eight)
+
+pub loop-i-preserved : goal.loop-i-preserved
+loop-i-preserved c =
+    let b = c.before.before.before.before in
+    search_on b.loop-i.invariant c.before.before.before.loop-i-test.true (omega (arith, b.before.well-formed.0)) c.if-outline-cycle.false
+
+pub returns : goal.returns
+returns c = (sym (search_ends c.before.loop-i.invariant c.loop-i-test.false), omega (arith, c.before.before.well-formed.0))

@@ -1,0 +1,31 @@
+-- `list_block` meets its contract: the column, the row and the side of a block give its top row.
+use Rattle.starts.specs.Blocks.{side_low, top-row-next, top-row_listed}
+use native.Mathlib.Omega.{arith}
+use Rattle.starts.proofs.list_block.Goals as goal
+
+-- ---- the places
+
+abbrev entry : goal.After-side-width → goal.Start
+entry c = c.before.before.before.before.before.before.before
+
+abbrev worked-out : goal.After-list_row-arg-5-1 → goal.After-side-width
+worked-out c = c.before.before.before.before.before
+
+abbrev listed : goal.After-areas-1 → goal.After-list_row
+listed c = c.before.before.before.before.before.before.before.before.before
+
+abbrev there : goal.After-areas-1 → goal.After-side-width
+there c = worked-out (listed c).before
+
+pub overflow_cast-width : goal.overflow_cast-width
+overflow_cast-width c = omega (arith, side_low (entry c).requires, c.side-width.ensures)
+
+pub list_row-requires : goal.list_row-requires
+list_row-requires c =
+    let d = worked-out c in
+    top-row-next (entry d).requires d.before.before.column-x.ensures d.before.row-y.ensures d.side-width.ensures
+
+pub returns : goal.returns
+returns c =
+    top-row_listed (entry (there c)).requires (there c).before.before.column-x.ensures (there c).before.row-y.ensures (there c).side-width.ensures
+    (listed c).list_row.ensures

@@ -1,0 +1,30 @@
+use Rattle.quadtree.specs.Quadtree.{alike}
+use Rattle.uniform.specs.Squares.{run-ended, run_goes_on, run_breaks}
+use mathlib.Core.Path.{◌≡◌, refl, sym, ap, ◌∙◌}
+use Prim.Native.Nat.{◌-◌, ◌+◌}
+use native.Mathlib.Omega.{arith}
+use Rattle.uniform.proofs.run_alike.Goals as goal
+
+pub loop-i-init : goal.loop-i-init
+loop-i-init c =
+    let a = c.args in
+    let e : a.from + a.s - a.from ≡ a.s = omega arith in
+    (omega arith, omega arith, refl, ap (alike a.raster.now a.v a.from) e)
+
+pub returns-then-raster-i : goal.returns-then-raster-i
+returns-then-raster-i c =
+    let turn = c.before.before in
+    let a = turn.before.before.args in
+    run_breaks a.raster.now a.v turn.before.loop-i.i (a.from + a.s) turn.loop-i-test.true c.if-raster-i.true ∙ turn.before.loop-i.invariant.3
+
+pub loop-i-preserved : goal.loop-i-preserved
+loop-i-preserved c =
+    let turn = c.before.before in
+    let a = turn.before.before.args in
+    let goes_on = run_goes_on a.raster.now a.v turn.before.loop-i.i (a.from + a.s) turn.loop-i-test.true c.if-raster-i.false in
+    (omega arith, omega arith, refl, sym goes_on ∙ turn.before.loop-i.invariant.3)
+
+pub returns : goal.returns
+returns c =
+    let a = c.before.before.args in
+    run-ended a.raster.now a.v c.before.loop-i.i (a.from + a.s - c.before.loop-i.i) (omega arith) ∙ c.before.loop-i.invariant.3

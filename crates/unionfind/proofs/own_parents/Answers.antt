@@ -1,0 +1,13 @@
+use Rattle.unions.specs.OwnParents.{begin, again, finish}
+use Prim.Native.Nat.{◌-◌}
+use native.Mathlib.Omega.{arith}
+use Rattle.unionfind.proofs.own_parents.Goals as goal
+
+pub loop-i-init : goal.loop-i-init
+loop-i-init c = begin _
+
+pub loop-i-preserved : goal.loop-i-preserved
+loop-i-preserved c = again c.before.loop-i.invariant (omega arith)
+
+pub returns : goal.returns
+returns c = finish c.before.loop-i.invariant (omega arith)
