@@ -57,7 +57,8 @@ def convert(fn_dir, names, modpath, crate):
     # leading comment block of file
     for it in its:
         body = [l for l in it if not l.startswith("--")]
-        comm = [l for l in it if l.startswith("--")]
+        while body and not body[0].strip(): body.pop(0)
+        comm = [l for l in it if l.startswith("--") and not l.startswith("-- ----")]
         first = next((l for l in body if l.strip()), "")
         if first.startswith("use "):
             head += comm
