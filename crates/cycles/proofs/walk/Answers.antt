@@ -149,10 +149,7 @@ sum-read c = read_back _ (omega (arith, sum-small c)) ∙ leg-read c
 pub overflow_add-sum : goal.overflow_add-sum
 overflow_add-sum c = fits _ (omega (arith, sum-small c))
 
--- ---- the test for the start
 pub overflow_mul-y : goal.overflow_mul-y
-
-mul-if1 : goal.overflow_mul-y
 overflow_mul-y c = omega (arith, (turn-done (after-column c)).low)
 
 pub overflow_add-y : goal.overflow_add-y

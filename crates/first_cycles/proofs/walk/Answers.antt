@@ -51,10 +51,7 @@ turn-done c =
     let b = entry (head (after-row w)) in
     one_run_more b.args.column b.args.row b.requires.0 (column-next (after-row w)).next w.along_column-next.ensures
 
--- ---- the test for the start
 pub overflow_mul-y : goal.overflow_mul-y
-
-mul-if1 : goal.overflow_mul-y
 overflow_mul-y c = omega (arith, (turn-done c).small)
 
 pub overflow_add-y : goal.overflow_add-y

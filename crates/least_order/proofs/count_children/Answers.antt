@@ -13,10 +13,7 @@ counted c = c.before.before
 abbrev turn : goal.After-count_child → goal.In-loop-v
 turn c = c.before.before
 
--- ---- the needs
 pub loop-v-init : goal.loop-v-init
-
-loop-holds : goal.loop-v-init
 loop-v-init c = counted_none
 
 pub count_child-requires : goal.count_child-requires

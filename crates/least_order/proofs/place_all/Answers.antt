@@ -13,10 +13,7 @@ turn c = c.before.before
 abbrev placed : goal.After-slice_known-in-loop-v-2-1 → goal.After-place-at
 placed c = c.before.before.before.before
 
--- ---- the needs
 pub loop-v-init : goal.loop-v-init
-
-loop-holds : goal.loop-v-init
 loop-v-init c = arranged_none
 
 pub place-at-requires : goal.place-at-requires

@@ -15,10 +15,7 @@ parent_low c = parent_falls (turn c).before.requires (turn c).loop-whole.invaria
 small : (c : goal.Else-up-eq0) → ((turn c).loop-whole.u < (turn c).before.args.whole) × ((turn c).before.args.whole ≤ 65536)
 small c = number_small (turn c).before.requires (turn c).loop-whole.invariant
 
--- ---- the needs
 pub loop-whole-init : goal.loop-whole-init
-
-loop-holds : goal.loop-whole-init
 loop-whole-init c = rises_begins c.requires
 
 pub overflow_cast-order : goal.overflow_cast-order

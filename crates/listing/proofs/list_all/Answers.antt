@@ -25,10 +25,7 @@ start c = entry c.before.before
 abbrev turn : goal.After-areas-1 → goal.In-loop-i
 turn c = inside (listed c).before
 
--- ---- the needs
 pub loop-i-init : goal.loop-i-init
-
-loop-holds : goal.loop-i-init
 loop-i-init c = begin (entry c).requires
 
 pub list_next-reached-requires : goal.list_next-reached-requires

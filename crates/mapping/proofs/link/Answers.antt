@@ -21,10 +21,7 @@ label-low c = label_known (start c).requires c.before.loop-j.invariant c.loop-j-
 head-inside : (c : goal.In-loop-j) → get_or (start c).args.labels.now (c.before.loop-j.j - 1) 0 < length c.before.loop-j.work
 head-inside c = omega (arith, label-low c, (start c).requires.long, c.before.loop-j.invariant.long)
 
--- ---- the needs
 pub loop-j-init : goal.loop-j-init
-
-loop-holds : goal.loop-j-init
 loop-j-init c = begin c.requires
 
 pub offset_bounds-labels-j : goal.offset_bounds-labels-j

@@ -11,10 +11,7 @@ turn c = c.before
 abbrev low : goal.Else-order-v → goal.In-loop-i
 low c = turn c.before
 
--- ---- the needs
 pub loop-i-init : goal.loop-i-init
-
-loop-holds : goal.loop-i-init
 loop-i-init c = begin _ c.requires
 
 pub overflow_cast-v : goal.overflow_cast-v

@@ -15,10 +15,7 @@ marked c = c.before.before.before
 abbrev fitting : goal.After-all_new-new → goal.Else-order-count
 fitting c = c.before.before
 
--- ---- the needs
 pub returns-then-order-count : goal.returns-then-order-count
-
-returns : goal.returns-then-order-count
 returns-then-order-count c = (sym (once_of_other_length _ _ c.if-order-count.true), refl)
 
 pub all_new-new-requires : goal.all_new-new-requires

@@ -11,10 +11,7 @@ entry c = c.before.before.before
 abbrev turn : goal.After-parent_marked → goal.In-loop-i
 turn c = c.before.before.before
 
--- ---- the needs
 pub loop-i-init : goal.loop-i-init
-
-loop-holds : goal.loop-i-init
 loop-i-init c = begin _ c.before.before.requires.blank
 
 pub overflow_cast-v : goal.overflow_cast-v

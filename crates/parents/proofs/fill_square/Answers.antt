@@ -11,10 +11,7 @@ entry c = c.before.before.before
 abbrev turn : goal.After-slice_known-in-loop-y-1 → goal.In-loop-y
 turn c = c.before.before.before.before
 
--- ---- the needs
 pub offset_bounds-map-at : goal.offset_bounds-map-at
-
-mul-map : goal.offset_bounds-map-at
 offset_bounds-map-at c = omega (arith, c.before.before.requires.1 0 (omega (arith, c.if-s-eq1.true)), c.if-s-eq1.true, c.before.before.well-formed)
 
 pub bounds-map-at : goal.bounds-map-at

@@ -13,10 +13,7 @@ filled c = c.before.before.before
 abbrev settled : goal.After-fill-arg-1 → goal.After-settle_all
 settled c = c.before.before.before
 
--- ---- the needs
 pub fill_map-requires : goal.fill_map-requires
-
-fill-map-requires : goal.fill_map-requires
 fill_map-requires c = fillable (entry c).requires
 
 pub settle_all-requires : goal.settle_all-requires

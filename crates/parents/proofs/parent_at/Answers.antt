@@ -17,10 +17,7 @@ sized c = c.before.before
 bounds : (c : goal.After-pixels-whole) → NorthBounds (entry (lower c)).requires c.before.side-side.ensures c.pixels-whole.ensures (lower c).if-y-eq0.false
 bounds c = north_bounds (entry (lower c)).requires c.before.side-side.ensures c.pixels-whole.ensures (lower c).if-y-eq0.false
 
--- ---- the needs
 pub returns-then-y-eq0 : goal.returns-then-y-eq0
-
-returns : goal.returns-then-y-eq0
 returns-then-y-eq0 c = parent_of_top c.before.before.requires c.if-y-eq0.true
 
 pub overflow_mul-north : goal.overflow_mul-north

@@ -16,10 +16,7 @@ passed c = c.before.before
 abbrev turn : goal.After-settle_next-s → goal.In-loop-s
 turn c = c.before.before
 
--- ---- the needs
 pub loop-s-init : goal.loop-s-init
-
-loop-holds : goal.loop-s-init
 loop-s-init c = begin c.before.before.before.requires
 
 pub settle_next-s-requires : goal.settle_next-s-requires

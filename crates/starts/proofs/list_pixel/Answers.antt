@@ -24,10 +24,7 @@ written c = c.before.before.before.before
 abbrev unmarked-there : goal.After-slice_known-6-1 → goal.Else-r-eq0
 unmarked-there c = (written c).before.before.before
 
--- ---- the needs
 pub unmarked-r-requires : goal.unmarked-r-requires
-
-unmarked-requires : goal.unmarked-r-requires
 unmarked-r-requires c = pixel_of (entry c).requires
 
 pub returns-then-r-eq0 : goal.returns-then-r-eq0

@@ -21,10 +21,7 @@ start c = entry c.before.before
 abbrev turn : goal.After-areas-1 → goal.In-loop-i
 turn c = inside (listed c).before
 
--- ---- the needs
 pub overflow_add-end : goal.overflow_add-end
-
-add-end : goal.overflow_add-end
 overflow_add-end c = omega (arith, end_small (entry c).requires)
 
 pub loop-i-init : goal.loop-i-init

@@ -11,10 +11,7 @@ entry c = c.before.before.before.before.before.before.before.before
 abbrev lists : goal.Start → Lent
 lists s = lent s.args.labels.now s.args.work.now s.args.owners.now s.args.ends.now s.args.corners.now s.args.areas.now
 
--- ---- the needs
 pub returns-then-n-gt8 : goal.returns-then-n-gt8
-
-returns : goal.returns-then-n-gt8
 returns-then-n-gt8 c =
     let s = entry c.before in
     large s.args.n s.args.codes.now s.args.levels.now s.args.colours.now (lists s) c.if-n-gt8.true
