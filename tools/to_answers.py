@@ -51,9 +51,15 @@ def convert(fn_dir, names, modpath, crate):
     for p in names["places"]:
         o, n = p[2]
         if o: steps.setdefault(norm(o), []) ; steps[norm(o)].append(n) if n not in steps[norm(o)] else None
+    arms = []
+    for i, a in enumerate(names.get("arms", [])):
+        if not a: continue
+        for new_field, old_step, old_path in a[2]:
+            arms.append((norm(old_step), list(old_path), a[0], new_field))
     loops = {norm(l[0][0]): (l[0][1], l[1]) for l in names["loops"]}
     its = blocks(src)
     uses, invs, answers, head = [], [], [], []
+    labels, searched = {}, {}
     # leading comment block of file
     for it in its:
         body = [l for l in it if not l.startswith("--")]
@@ -98,7 +104,10 @@ def convert(fn_dir, names, modpath, crate):
             rest = "\n".join(body[1:]).rstrip("\n")
             mm = re.search(r"^" + re.escape(label) + r"((?: " + W + r")*) =", rest, re.M)
             rhs = rest[mm.end():].strip() if mm else ""
-            if rhs in ("search rules",) : continue
+            if new is not None: labels[label] = new
+            if rhs in ("search rules",):
+                searched[label] = (new, need)
+                continue
             if new is None:
                 answers.append("-- NO GOAL " + need + "\n-- " + "\n-- ".join(text.split("\n")))
                 continue
@@ -109,22 +118,75 @@ def convert(fn_dir, names, modpath, crate):
             continue
         answers.append(text)
     invnames = r"(?: (?:invariant|decreases)-" + W + r")*"
+    newinv = "".join(f" {k}-{l[0][1]}" for l in names["loops"] for k in ("invariant", "decreases")) if False else ""
+    given = " ".join([f"invariant-{l[0][1]}" for l in names["loops"]] + [f"decreases-{l[0][1]}" for l in names["loops"]])
+    used_tie = [False]
+
+    def place(m):
+        used_tie[0] = True
+        new = places.get(norm(m.group(1)), "??" + m.group(1))
+        inv = m.group(0)[m.end(1) - m.start(0):]
+        inv2 = re.sub(r"(invariant|decreases)-(" + W + ")", lambda k: k.group(1) + "-" + loops.get(norm(k.group(2)), ("?" + k.group(2),))[0], inv)
+        return "tie." + new + inv2
+
+    def path(m):
+        root, rest = m.group(1), m.group(2).split(".")[1:]
+        pre = []
+        while rest and rest[0] == "before":
+            pre.append(rest.pop(0))
+        if rest and root not in ("l", "goal", "tie", "Rattle") and not root[0].isupper():
+            w = rest[0]
+            key = norm(w)
+            if key not in steps and key.endswith("-lem") and key[:-4] in steps: key = key[:-4]
+            hits = []
+            for s, p, newstep, newfield in arms:
+                if s == key and p and rest[1:1 + len(p)] == p:
+                    hits.append((len(p), newstep, newfield, rest[1 + len(p):]))
+            if hits:
+                best = max(h[0] for h in hits)
+                hits = [h for h in hits if h[0] == best]
+                _, ns, nf, tail = hits[0]
+                rest = [ns, nf] + tail
+            elif key in steps and w not in ("args", "requires", "before"):
+                c = steps[key]
+                if norm(c[0]) != key + "-1":
+                    rest = [c[0]] + rest[1:]
+        rest = [FIELDS.get(x, x) if i else x for i, x in enumerate(rest)]
+        return root + "".join("." + x for x in pre + rest)
+
     def turn(t):
         t = re.sub(r"tie\.Need-(" + W + r")" + invnames, lambda m: "goal." + needs.get(norm(m.group(1)), needs.get(norm(m.group(1)).replace("overflow-", ""), "??" + m.group(1))), t)
-        t = re.sub(r"tie\.(" + W + r")" + invnames, lambda m: "goal." + places.get(norm(m.group(1)), "??" + m.group(1)), t)
-        def st(m):
-            w = m.group(1)
-            if w in FIELDS: return "." + FIELDS[w]
-            prev = re.search(r"([^\s(){}\[\],;.:=λ→↦|\"«»`]+)$", m.string[:m.start()])
-            prev = prev.group(1) if prev else ""
-            if prev in ("args", "initial", "new", "now", "old", "fn", "l", "result", "ranges", "auto") or prev.startswith("loop") or any(w in vs for _, vs in loops.values()):
-                return m.group(0)
-            if norm(w) in steps and w not in ("args", "requires", "before"):
-                c = steps[norm(w)]
-                return "." + c[0]
-            return m.group(0)
-        t = "\n".join(l if l.startswith(("use ", "--", "unfolding ")) else re.sub(r"(?<=[\w)'₀-₉])\.(" + W + r")", st, l) for l in t.split("\n"))
-        return t
+        t = re.sub(r"tie\.(" + W + r")" + invnames, place, t)
+        out = []
+        for l in t.split("\n"):
+            if not l.startswith(("use ", "--", "unfolding ")):
+                l = re.sub(r"(?<![\w.'-])(" + W + r")((?:\.[A-Za-z0-9_'₀-₉-]+)+)", path, l)
+                l = re.sub(r"(\))((?:\.[A-Za-z0-9_'₀-₉-]+)+)", path, l)
+                l = re.sub(r"not-(?:true|false) \S+ (\S*[\w])(?=[\s,;)]|$)", lambda m: m.group(1), l)
+                l = re.sub(r"\(([\w.-]+\.(?:true|false))\)", r"\1", l)
+            out.append(l)
+        return "\n".join(out)
+
+    cited = set(re.findall(W, "\n".join(answers)))
+    for lab, (new, need) in searched.items():
+        if new and lab in cited and re.search(r"(?<![\w.-])" + re.escape(lab) + r" ", "\n".join(answers)):
+            answers.insert(0, f"pub {new} : goal.{new}\n{new} c = search rules")
+    order = sorted(labels, key=len, reverse=True)
+    def cite(a):
+        ls = a.split("\n")
+        head = next((i for i, l in enumerate(ls) if re.match(r"(pub |abbrev )*" + W + r" :", l)), None)
+        own = re.match(r"(?:pub |abbrev )*(" + W + r") :", ls[head]).group(1) if head is not None else ""
+        res = []
+        for l in ls:
+            if l.startswith("--") or l.startswith("pub ") or l.startswith(own + " "):
+                if l.startswith(own + " ") and "=" in l:
+                    k = l.index("=")
+                    l = l[:k] + re.sub(r"(?<![\w.'-])(" + W + r")(?![\w'-])", lambda m: labels.get(m.group(1), m.group(1)) if m.group(1) in labels else m.group(1), l[k:])
+                res.append(l)
+            else:
+                res.append(re.sub(r"(?<![\w.'-])(" + W + r")", lambda m: labels.get(m.group(1), m.group(1)), l))
+        return "\n".join(res)
+    answers = [cite(a) for a in answers]
     answers = [turn(a) for a in answers]
     invs = [turn(i) for i in invs]
     lemma_of = {}
@@ -145,11 +207,17 @@ def convert(fn_dir, names, modpath, crate):
             for n in ns:
                 base = n.split(" as ")[-1]
                 op = re.sub("◌", "", base)
+                if op in (">>=", ">>") and re.search(r"\bdo\b", body): k.append(n); continue
                 if base in toks or (op != base and op in toks) or (op != base and op in body): k.append(n)
             if k: kept.append(f"use {m.group(1)}.{{{', '.join(k)}}}")
         open(os.path.join(fn_dir, name), "w", encoding="utf-8").write("\n".join(head + kept + [imp, ""]) + "\n" + body + "\n")
     put("Invariants.antt", invs, f"use {modpath}.Given as goal", head if not answers else head)
-    put("Answers.antt", answers, f"use {modpath}.Goals as goal", [] if invs else head)
+    imp = f"use {modpath}.Goals as goal"
+    if used_tie[0]:
+        imp += f"\nuse {modpath}.Tie as tie"
+        cited = [w for w in given.split() if any(w in re.findall(W, a) for a in answers)]
+        if cited: imp = f"use {modpath}.Invariants.{{{', '.join(cited)}}}\n" + imp
+    put("Answers.antt", answers, imp, [] if invs else head)
     os.remove(os.path.join(fn_dir, "Proof.antt"))
     return amb
 

@@ -2,12 +2,13 @@
 use native.Mathlib.Omega.{arith}
 use Rattle.appending.specs.Appended.{end_small, same_lengths, appended_same, appended_other}
 use Rattle.appending.proofs.append.Goals as goal
+use Rattle.appending.proofs.append.Tie as tie
 
 -- Where the run was written and where the call began, seen from the last return.
-abbrev wrote : goal.After-struct_known-2-1 → goal.After-write_run-count
+abbrev wrote : tie.After-struct_known-2-1 → tie.After-write_run-count
 wrote c = c.before.before.before.before.before.before.before
 
-abbrev entry : goal.After-write_run-count → goal.Start
+abbrev entry : tie.After-write_run-count → tie.Start
 entry c = c.before.before.before.before.before.before.before.before.before
 
 pub overflow_add-result : goal.overflow_add-result
@@ -32,4 +33,4 @@ pub shape_of-colours : goal.shape_of-colours
 shape_of-colours c = (same_lengths (entry (wrote c)).requires.writable (wrote c).write_run-count.ensures).for_colours
 
 pub returns : goal.returns
-returns c = let w = wrote c in appended_other (entry w).requires w.before.before.before.before.if-colour-pending.false w.write_run-count.ensures
+returns c = let w = wrote c in appended_other (entry w).pre w.before.before.before.before.if-colour-pending.false w.write_run-count.ensures

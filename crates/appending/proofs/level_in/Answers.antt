@@ -1,9 +1,11 @@
 use native.Mathlib.Omega.{arith}
 use Rattle.appending.specs.Levels.{run_small, level_of_few, level_first, square_small, level_found, level_positive, level_next}
+use Rattle.appending.proofs.level_in.Invariants.{invariant-loop-n, decreases-loop-n}
 use Rattle.appending.proofs.level_in.Goals as goal
+use Rattle.appending.proofs.level_in.Tie as tie
 
 -- Where the call began, seen from the place where the pixels of a level are known.
-abbrev entry : goal.After-pixels → goal.Start
+abbrev entry : tie.After-pixels invariant-loop-n decreases-loop-n → tie.Start invariant-loop-n decreases-loop-n
 entry c = c.before.before.before.before
 
 pub overflow_sub-to : goal.overflow_sub-to
@@ -24,13 +26,13 @@ overflow_add-from c =
     omega (arith, pre.some, run_small pre, square_small pre c.before.loop-n.invariant c.pixels.ensures)
 
 pub returns-then-from-pixels : goal.returns-then-from-pixels
-returns-then-from-pixels c = level_found (entry c.before).requires c.before.before.loop-n.invariant c.before.pixels.ensures c.if-from-pixels.true
+returns-then-from-pixels c = level_found (entry c.before).pre c.before.before.loop-n.invariant c.before.pixels.ensures c.if-from-pixels.true
 
 pub overflow_sub-level : goal.overflow_sub-level
-overflow_sub-level c = level_positive (entry c.before).requires c.before.before.loop-n.invariant c.before.pixels.ensures c.if-from-pixels.false
+overflow_sub-level c = level_positive (entry c.before).pre c.before.before.loop-n.invariant c.before.pixels.ensures c.if-from-pixels.false
 
 pub loop-n-smaller : goal.loop-n-smaller
-loop-n-smaller c = omega (arith, sub-level c)
+loop-n-smaller c = omega (arith, overflow_sub-level c)
 
 pub loop-n-preserved : goal.loop-n-preserved
-loop-n-preserved c = level_next (entry c.before).requires c.before.before.loop-n.invariant c.before.pixels.ensures c.if-from-pixels.false
+loop-n-preserved c = level_next (entry c.before).pre c.before.before.loop-n.invariant c.before.pixels.ensures c.if-from-pixels.false

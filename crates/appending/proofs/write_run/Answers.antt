@@ -4,24 +4,26 @@ use native.Mathlib.Omega.{arith}
 use Rattle.location.specs.Levels.{pixels_of}
 use Rattle.quadtree.specs.BlockLists.{list_of}
 use Rattle.appending.specs.WriteLoop.{Turn, writing_none, square_in_run, turn, writing_more, run_written}
+use Rattle.appending.proofs.write_run.Invariants.{invariant-loop-code, decreases-loop-code}
 use Rattle.appending.proofs.write_run.Goals as goal
+use Rattle.appending.proofs.write_run.Tie as tie
 
 -- Where the call began.
-abbrev entry : goal.In-loop-code → goal.Start
+abbrev entry : tie.In-loop-code invariant-loop-code decreases-loop-code → tie.Start invariant-loop-code decreases-loop-code
 entry c = c.before.before.before.before.before.before
 
 -- The numbers of a turn once its level is known, and once its pixels are.
-square : (c : goal.After-level_in-level) → let l = c.before.before.before.loop-code in
+square : (c : tie.After-level_in-level invariant-loop-code decreases-loop-code) → let l = c.before.before.before.loop-code in
     Turn (entry c.before).args.pending (list_of l.codes l.levels l.colours) l.at l.code c.level_in-level.result (pixels_of c.level_in-level.result)
-square c = turn (entry c.before).requires c.before.before.before.loop-code.invariant c.before.loop-code-test.true c.level_in-level.ensures refl
+square c = turn (entry c.before).pre c.before.before.before.loop-code.invariant c.before.loop-code-test.true c.level_in-level.ensures refl
 
-sized : (c : goal.After-pixels-code) → let l = c.before.before.before.before.loop-code in
+sized : (c : tie.After-pixels-code invariant-loop-code decreases-loop-code) → let l = c.before.before.before.before.loop-code in
     Turn (entry c.before.before).args.pending (list_of l.codes l.levels l.colours) l.at l.code c.before.level_in-level.result c.pixels-code.result
 sized c =
     let now = c.before.before in
-    turn (entry now).requires now.before.before.loop-code.invariant now.if1.true c.before.level_in-level.ensures c.pixels-code.ensures
+    turn (entry now).requires now.before.before.loop-code.invariant now.loop-code-test.true c.before.level_in-level.ensures c.pixels-code.ensures
 
-here : (c : goal.After-level_in-level) → let l = c.before.before.before.loop-code in (l.at ≤ l.code) × (l.code < (entry c.before).args.pending.to)
+here : (c : tie.After-level_in-level invariant-loop-code decreases-loop-code) → let l = c.before.before.before.loop-code in (l.at ≤ l.code) × (l.code < (entry c.before).args.pending.to)
 here c = (c.before.before.before.loop-code.invariant.few, c.before.loop-code-test.true)
 
 pub loop-code-init : goal.loop-code-init
@@ -63,7 +65,7 @@ loop-code-smaller c = omega (arith, sized c)
 pub loop-code-preserved : goal.loop-code-preserved
 loop-code-preserved c =
     let now = c.before.before in
-    writing_more (entry now).requires now.before.before.loop-code.invariant now.if1.true c.before.level_in-level.ensures c.pixels-code.ensures
+    writing_more (entry now).requires now.before.before.loop-code.invariant now.loop-code-test.true c.before.level_in-level.ensures c.pixels-code.ensures
 
 pub shape_of-codes : goal.shape_of-codes
 shape_of-codes c = c.before.before.loop-code.invariant.same.for_codes

@@ -2,9 +2,10 @@
 use mathlib.Core.Path.{sym, ◌∙◌}
 use Rattle.blocks.specs.Checking.{number_large, number-levels_unlike, number-colours_unlike, number-cover, number-siblings, number_accepted}
 use Rattle.blocks.proofs.check.Goals as goal
+use Rattle.blocks.proofs.check.Tie as tie
 
 -- The three lists have one length.
-abbrev alike : goal.After-cover-fault → goal.Else-levels-colours
+abbrev alike : tie.After-cover-fault → tie.Else-levels-colours
 alike c = c.before
 
 pub returns-then-n-gt8 : goal.returns-then-n-gt8

@@ -7,9 +7,10 @@ use Rattle.components.specs.BlockPairs.{span_pairs}
 use Rattle.components.specs.Spans.{none_at_edge, all_inside_lem}
 use Rattle.border.specs.BorderSpans.{one_joinable, one_joined}
 use Rattle.border.proofs.join_one.Goals as goal
+use Rattle.border.proofs.join_one.Tie as tie
 
 -- The pairs of the span.
-abbrev pairs : goal.Start → List Pair
+abbrev pairs : tie.Start → List Pair
 pairs s = span_pairs (λ x. get_or s.args.entries.now x 0) s.args.colours.now s.args.k s.args.at 1
 
 pub offset_bounds-entries-at : goal.offset_bounds-entries-at

@@ -6,17 +6,19 @@ use Rattle.unions.specs.Pairs.{Pair}
 use Rattle.unions.specs.Roots.{root}
 use Rattle.components.specs.BlockPairs.{span_pairs}
 use Rattle.components.specs.Spans.{alike_self, done-after, NamedSpan, begin, entry-inside, again, finish, none_at_edge, all_inside_lem}
+use Rattle.border.proofs.join_span.Invariants.{invariant-loop-x, decreases-loop-x}
 use Rattle.border.proofs.join_span.Goals as goal
+use Rattle.border.proofs.join_span.Tie as tie
 
 -- The pairs of the span.
-abbrev pairs : goal.Start → List Pair
+abbrev pairs : tie.Start invariant-loop-x decreases-loop-x → List Pair
 pairs s = span_pairs (λ x. get_or s.args.entries.now x 0) s.args.colours.now s.args.k s.args.from s.args.s
 
 -- Past the edge's return the entries name neighbours.
-abbrev entry : goal.Else-z-eq0 → goal.Start
+abbrev entry : tie.Else-z-eq0 invariant-loop-x decreases-loop-x → tie.Start invariant-loop-x decreases-loop-x
 entry e = e.before.before.before.before
 
-ready : (e : goal.Else-z-eq0)
+ready : (e : tie.Else-z-eq0 invariant-loop-x decreases-loop-x)
     → NamedSpan (entry e).args.entries.now (entry e).args.from (entry e).args.s (entry e).args.colours.now (entry e).args.k (entry e).args.parents.now
 ready e = (entry e).requires.named (omega (arith, e.if-z-eq0.false))
 

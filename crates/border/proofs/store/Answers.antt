@@ -14,7 +14,7 @@ bounds-work-w c = simp length-set (omega (arith, c.before.before.requires.in_row
 pub returns-then-s-eq1 : goal.returns-then-s-eq1
 returns-then-s-eq1 c =
     let a = c.before.before.args in
-    stored_single a.work-1.now a.w a.x a.y a.s a.k c.if-s-eq1.true
+    stored_single a.work.now a.w a.x a.y a.s a.k c.if-s-eq1.true
 
 pub returns : goal.returns
 returns c =

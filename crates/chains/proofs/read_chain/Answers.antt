@@ -13,35 +13,36 @@ use Rattle.chains.specs.ChainForm.{chain_form, corners_of, walk, read_number}
 use Rattle.chains.specs.ChainParts.{chain_parts, Readable, readable}
 use Rattle.chains.specs.Followed.{said_none, said_some}
 use Rattle.chains.proofs.read_chain.Goals as goal
+use Rattle.chains.proofs.read_chain.Tie as tie
 
 -- The start and the bytes where corners were counted, and where the list is long enough.
-abbrev start1 : goal.In-Corners → ℕ
+abbrev start1 : tie.In-Corners → ℕ
 start1 c = c.before.before.before.before.before.before.args.start
 
-abbrev bytes1 : goal.In-Corners → List ℕ
+abbrev bytes1 : tie.In-Corners → List ℕ
 bytes1 c = c.before.before.before.before.before.before.args.bytes.now
 
-abbrev corners1 : goal.In-Corners → List ℕ
+abbrev corners1 : tie.In-Corners → List ℕ
 corners1 c = corners_of (start1 c) (bytes1 c)
 
-abbrev last1 : goal.In-Corners → ℕ
+abbrev last1 : tie.In-Corners → ℕ
 last1 c = get_or (bytes1 c) (length (bytes1 c) - 1) 0 - 48
 
-abbrev wrote : goal.After-corners-1 → goal.In-Corners
+abbrev wrote : tie.After-corners-1 → tie.In-Corners
 wrote c = c.before.before.before.before.before
 
 -- The bytes are a chain, and its corners were counted.
-counted : (c : goal.In-Corners) → (chain_form (start1 c) (bytes1 c) ≡ true) × (c.before.n-1.given.0.0 ≡ length (corners1 c))
-counted c = said_some c.before.before.before.corner_count.ensures c.before.n-1.given.1
+counted : (c : tie.In-Corners) → (chain_form (start1 c) (bytes1 c) ≡ true) × (c.before.in-Corners.n ≡ length (corners1 c))
+counted c = said_some c.before.before.before.corner_count.ensures c.before.in-Corners.is
 
-chain : (c : goal.In-Corners) → Readable (start1 c) (bytes1 c) (last1 c)
+chain : (c : tie.In-Corners) → Readable (start1 c) (bytes1 c) (last1 c)
 chain c = readable (start1 c) (bytes1 c) (counted c).0
 
 pub returns-in_default : goal.returns-in_default
 unfolding read_number
 returns-in_default c =
     let a = c.before.before.before.before.before.args in
-    let none = said_none c.before.before.corner_count.ensures c.enum_told-1.given.1 in
+    let none = said_none c.before.before.corner_count.ensures c.in_default.is in
     answers_cause 17 (chain_form a.start a.bytes.now) (length (corners_of a.start a.bytes.now)) _ 16 refl none refl refl
 
 pub returns-then-corners-n : goal.returns-then-corners-n

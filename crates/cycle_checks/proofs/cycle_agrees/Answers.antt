@@ -4,16 +4,17 @@ use native.Mathlib.Omega.{arith}
 use Rattle.sequences.specs.Says.{granted}
 use Rattle.cycle_checks.specs.Checked.{no_corner, south_of_image, no_region, square-here, no_walk, walked}
 use Rattle.cycle_checks.proofs.cycle_agrees.Goals as goal
+use Rattle.cycle_checks.proofs.cycle_agrees.Tie as tie
 
 -- ---- the places: the function's entry, where the side is known, and where a walk may begin
 
-abbrev entry : goal.After-side-side → goal.Start
+abbrev entry : tie.After-side-side → tie.Start
 entry c = c.before.before.before.before.before.before.before
 
-abbrev at_side : goal.After-begins → goal.After-side-side
+abbrev at_side : tie.After-begins → tie.After-side-side
 at_side c = c.before.before
 
-abbrev begun : goal.After-walk-arg-1 → goal.After-begins
+abbrev begun : tie.After-walk-arg-1 → tie.After-begins
 begun c = c.before.before
 
 pub returns-then-points-eq0 : goal.returns-then-points-eq0
@@ -26,19 +27,19 @@ pub returns-then-owner-ge-MARK_BIT : goal.returns-then-owner-ge-MARK_BIT
 returns-then-owner-ge-MARK_BIT c = let b = c.before.before.before.before.before.before in no_region b.requires b.args.owner b.args.points.now c.if-owner-ge-MARK_BIT.true
 
 pub overflow_cast-side : goal.overflow_cast-side
-overflow_cast-side c = let b = entry c in omega (arith, (square-here b.requires b.args.owner b.args.points.now c.side-side.ensures).small)
+overflow_cast-side c = let b = entry c in omega (arith, (square-here b.pre b.args.owner b.args.points.now c.side-side.ensures).small)
 
 pub begins-requires : goal.begins-requires
 begins-requires c =
     let s = c.before in
     let b = entry s in
-    (square-here b.requires b.args.owner b.args.points.now s.side-side.ensures, omega arith, omega arith, omega (arith, s.before.before.if-p.false))
+    (square-here b.pre b.args.owner b.args.points.now s.side-side.ensures, omega arith, omega arith, omega (arith, s.before.before.if-p.false))
 
 pub returns-then-not-begins : goal.returns-then-not-begins
 returns-then-not-begins c =
     let s = at_side c.before in
     let b = entry s in
-    no_walk b.requires b.args.owner b.args.points.now s.side-side.ensures c.before.begins.ensures c.if-not-begins.true
+    no_walk b.pre b.args.owner b.args.points.now s.side-side.ensures c.before.begins.ensures c.if-not-begins.true
 
 pub walk-requires : goal.walk-requires
 walk-requires c = (granted (begun c).begins.ensures c.before.if-not-begins.false, omega arith, (entry (at_side (begun c))).requires.spread)
@@ -49,4 +50,4 @@ returns c =
     let g = begun w.before in
     let s = at_side g in
     let b = entry s in
-    walked b.requires b.args.owner b.args.points.now s.side-side.ensures (granted g.begins.ensures w.before.before.if-not-begins.false) w.walk.ensures
+    walked b.pre b.args.owner b.args.points.now s.side-side.ensures (granted g.begins.ensures w.before.before.if-not-begins.false) w.walk.ensures

@@ -3,9 +3,10 @@ use mathlib.Core.Path.{sym}
 use native.Mathlib.Omega.{arith}
 use Rattle.cycles.specs.Points.{MarkPlace, east_place, no_mark}
 use Rattle.cycle_checks.proofs.mark_east.Goals as goal
+use Rattle.cycle_checks.proofs.mark_east.Tie as tie
 
 -- The place of the pixel, where the edge goes eastward.
-place : (c : goal.Then-d-eq0) → let a = c.before.args in MarkPlace 0 a.side a.r a.map.now a.x a.y a.d a.x a.y
+place : (c : tie.Then-d-eq0) → let a = c.before.args in MarkPlace 0 a.side a.r a.map.now a.x a.y a.d a.x a.y
 place c = east_place c.before.requires c.if-d-eq0.true
 
 pub overflow_mul-i : goal.overflow_mul-i

@@ -2,17 +2,19 @@ use Prim.Native.Nat.{◌+◌, ◌<◌}
 use native.Mathlib.Omega.{arith}
 use Rattle.cycle_checks.specs.Comparing.{OneRunMore, edge_at, corner_due, at_first, start-inside, breaks_off, one_run_more}
 use Rattle.sequences.specs.Says.{granted}
+use Rattle.cycle_checks.proofs.walk.Invariants.{invariant-loop-side, decreases-loop-side}
 use Rattle.cycle_checks.proofs.walk.Goals as goal
+use Rattle.cycle_checks.proofs.walk.Tie as tie
 
 -- ---- the places: the function's entry, the loop's head, after the test at the corner, after the run
 
-abbrev entry : goal.At-loop-side → goal.Start
+abbrev entry : tie.At-loop-side invariant-loop-side decreases-loop-side → tie.Start invariant-loop-side decreases-loop-side
 entry c = c.before.before.before.before
 
-abbrev head : goal.After-corner_agrees → goal.At-loop-side
+abbrev head : tie.After-corner_agrees invariant-loop-side decreases-loop-side → tie.At-loop-side invariant-loop-side decreases-loop-side
 head c = c.before
 
-abbrev tested : goal.After-slice_known-in-loop-side-1 → goal.After-corner_agrees
+abbrev tested : tie.After-slice_known-in-loop-side-1 invariant-loop-side decreases-loop-side → tie.After-corner_agrees invariant-loop-side decreases-loop-side
 tested c = c.before.before.before.before.before
 
 pub code8-least-requires : goal.code8-least-requires
@@ -34,13 +36,13 @@ pub returns-then-not-corner_agrees : goal.returns-then-not-corner_agrees
 returns-then-not-corner_agrees c =
     let l = head c.before in
     let b = entry l in
-    breaks_off b.args.column b.args.row b.requires.0 b.requires.1 l.before.code8-least.ensures l.loop.invariant c.before.corner_agrees.ensures c.if-not-corner_agrees.true
+    breaks_off b.args.column b.args.row b.pre.0 b.pre.1 l.before.code8.ensures l.loop.invariant c.before.corner_agrees.ensures c.if-not-corner_agrees.true
 
 pub along-next-requires : goal.along-next-requires
-along-next-requires c = let l = head c.before.before in edge_at (entry l).requires.0 l.loop.invariant
+along-next-requires c = let l = head c.before.before in edge_at (entry l).pre.0 l.loop.invariant
 
 -- What a turn of the loop leads to, before the test for the start.
-turn-done : (c : goal.After-slice_known-in-loop-side-1) →
+turn-done : (c : tie.After-slice_known-in-loop-side-1 invariant-loop-side decreases-loop-side) →
     let l = head (tested c) in
     let a = (entry l).args in
     let e = c.before.before.along-next in
@@ -49,7 +51,7 @@ turn-done : (c : goal.After-slice_known-in-loop-side-1) →
 turn-done c =
     let l = head (tested c) in
     let b = entry l in
-    one_run_more b.args.column b.args.row b.requires.0 b.requires.1 l.before.code8-least.ensures l.loop.invariant
+    one_run_more b.args.column b.args.row b.pre.0 b.pre.1 l.before.code8.ensures l.loop.invariant
     (granted (tested c).corner_agrees.ensures c.before.before.before.before.if-not-corner_agrees.false) c.before.before.along-next.ensures
 
 pub overflow_mul-y : goal.overflow_mul-y
@@ -65,8 +67,8 @@ pub overflow_add-y-in-loop-side : goal.overflow_add-y-in-loop-side
 overflow_add-y-in-loop-side c = omega (arith, (turn-done c).small)
 
 -- The start lies in the image.
-start_low : (c : goal.After-slice_known-in-loop-side-1) → let a = (entry (head (tested c))).args in (a.column < 256) × (a.row < 256)
-start_low c = let b = entry (head (tested c)) in start-inside b.args.column b.args.row b.requires.0 b.requires.1
+start_low : (c : tie.After-slice_known-in-loop-side-1 invariant-loop-side decreases-loop-side) → let a = (entry (head (tested c))).args in (a.column < 256) × (a.row < 256)
+start_low c = let b = entry (head (tested c)) in start-inside b.args.column b.args.row b.pre.0 b.pre.1
 
 pub overflow_mul-row : goal.overflow_mul-row
 overflow_mul-row c = let l = start_low c in omega (arith, l.0, l.1)

@@ -2,16 +2,18 @@ use native.Mathlib.Omega.{arith}
 use Rattle.steps.specs.Rule.{Way}
 use Rattle.cycles.specs.Points.{way_at, moved_on, square_then}
 use Rattle.cycles.specs.Straight.{onward_from, OneFurther, one_further}
+use Rattle.cycles.proofs.straight.Invariants.{invariant-loop-side, decreases-loop-side}
 use Rattle.cycles.proofs.straight.Goals as goal
+use Rattle.cycles.proofs.straight.Tie as tie
 
 -- The places that are cited: the loop's head, and the marks made.
-abbrev marks-made : goal.??After-next-digit-arg → goal.After-mark_east
+abbrev marks-made : tie.??After-next-digit-arg invariant-loop-side decreases-loop-side → tie.After-mark_east invariant-loop-side decreases-loop-side
 marks-made c = c.before.before.before.before.before
 
-abbrev head : goal.After-mark_east → goal.At-loop-side
+abbrev head : tie.After-mark_east invariant-loop-side decreases-loop-side → tie.At-loop-side invariant-loop-side decreases-loop-side
 head c = c.before.before
 
-way-here : (c : goal.At-loop-side) → Way c.loop-side.x c.loop-side.y c.before.before.args.d
+way-here : (c : tie.At-loop-side invariant-loop-side decreases-loop-side) → Way c.loop-side.x c.loop-side.y c.before.before.args.d
 way-here c = way_at c.loop-side.invariant.at
 
 pub loop-side-init : goal.loop-side-init
@@ -34,7 +36,7 @@ next_digit-next-requires c =
     (square_then l.at 0 m.mark_east.ensures, omega (arith, k.x_low), omega (arith, k.y_low), l.at.low)
 
 -- What a turn of the loop leads to, before the test.
-turn-done : (c : goal.After-next_digit-next) →
+turn-done : (c : tie.After-next_digit-next invariant-loop-side decreases-loop-side) →
     let m = marks-made c.before in
     let l = (head m).loop-side in
     let a = (head m).before.before.args in

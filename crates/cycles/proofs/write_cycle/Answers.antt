@@ -3,15 +3,16 @@ use native.Mathlib.Omega.{arith}
 use Rattle.cycles.specs.CycleStarts.{PixelBounds, pixel_bounds}
 use Rattle.cycles.specs.Written.{cycle_start, ready_to_walk, walk_is_cycle}
 use Rattle.cycles.proofs.write_cycle.Goals as goal
+use Rattle.cycles.proofs.write_cycle.Tie as tie
 
 -- The places that are cited: the function's entry, and where the side is known.
-abbrev entry : goal.After-side-side → goal.Start
+abbrev entry : tie.After-side-side → tie.Start
 entry c = c.before.before.before
 
-abbrev at_side : goal.After-walk-arg-2-1 → goal.After-side-side
+abbrev at_side : tie.After-walk-arg-2-1 → tie.After-side-side
 at_side c = c.before.before.before
 
-bounds : (c : goal.After-side-side) → PixelBounds (cycle_start (entry c).requires) c.side-side.ensures
+bounds : (c : tie.After-side-side) → PixelBounds (cycle_start (entry c).requires) c.side-side.ensures
 bounds c = pixel_bounds (cycle_start (entry c).requires) c.side-side.ensures
 
 pub overflow_cast-side : goal.overflow_cast-side
@@ -35,10 +36,10 @@ bounds-map-i c = (bounds c.before).inside
 pub walk-requires : goal.walk-requires
 walk-requires c =
     let s = at_side c in
-    (ready_to_walk (entry s).requires s.side-side.ensures, omega (arith, (bounds s).x_low))
+    (ready_to_walk (entry s).pre s.side-side.ensures, omega (arith, (bounds s).x_low))
 
 pub returns : goal.returns
 returns c =
     let w = c.before.before.before.before in
     let s = at_side w.before in
-    walk_is_cycle (entry s).requires s.side-side.ensures w.walk.ensures
+    walk_is_cycle (entry s).pre s.side-side.ensures w.walk.ensures

@@ -3,15 +3,16 @@ use native.Mathlib.Omega.{arith}
 use Rattle.cycles.specs.CycleStarts.{PixelBounds, pixel_bounds}
 use Rattle.first_cycles.specs.Walking.{ready_to_walk, walk_is_cycle}
 use Rattle.first_cycles.proofs.mark_south_sides.Goals as goal
+use Rattle.first_cycles.proofs.mark_south_sides.Tie as tie
 
 -- The places that are cited: the function's entry, and where the side is known.
-abbrev entry : goal.After-side-side → goal.Start
+abbrev entry : tie.After-side-side → tie.Start
 entry c = c.before.before
 
-abbrev at_side : goal.After-walk-arg-1 → goal.After-side-side
+abbrev at_side : tie.After-walk-arg-1 → tie.After-side-side
 at_side c = c.before.before
 
-bounds : (c : goal.After-side-side) → PixelBounds (entry c).requires c.side-side.ensures
+bounds : (c : tie.After-side-side) → PixelBounds (entry c).requires c.side-side.ensures
 bounds c = pixel_bounds (entry c).requires c.side-side.ensures
 
 pub overflow_cast-side : goal.overflow_cast-side
@@ -33,10 +34,10 @@ pub bounds-map-i : goal.bounds-map-i
 bounds-map-i c = (bounds c.before).inside
 
 pub walk-requires : goal.walk-requires
-walk-requires c = let s = at_side c in (ready_to_walk (entry s).requires s.side-side.ensures, omega (arith, (bounds s).x_low))
+walk-requires c = let s = at_side c in (ready_to_walk (entry s).pre s.side-side.ensures, omega (arith, (bounds s).x_low))
 
 pub returns : goal.returns
 returns c =
     let w = c.before.before in
     let s = at_side w.before in
-    walk_is_cycle (entry s).requires s.side-side.ensures w.walk.ensures
+    walk_is_cycle (entry s).pre s.side-side.ensures w.walk.ensures

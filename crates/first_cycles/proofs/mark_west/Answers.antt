@@ -4,9 +4,10 @@ use native.Mathlib.Omega.{arith}
 use Rattle.cycles.specs.Points.{no_mark}
 use Rattle.first_cycles.specs.Walking.{WestPlace, west-place}
 use Rattle.first_cycles.proofs.mark_west.Goals as goal
+use Rattle.first_cycles.proofs.mark_west.Tie as tie
 
 -- The place of the pixel, where the edge goes westward.
-west : (c : goal.Then-d-eq2) → let a = c.before.args in WestPlace a.side a.r a.map.now a.x a.y a.d
+west : (c : tie.Then-d-eq2) → let a = c.before.args in WestPlace a.side a.r a.map.now a.x a.y a.d
 west c = west-place c.before.requires c.if-d-eq2.true
 
 pub overflow_sub-i : goal.overflow_sub-i

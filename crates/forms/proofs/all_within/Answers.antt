@@ -1,4 +1,3 @@
-use borrow.Author.Tests.{not-true, not-false}
 use Rattle.forms.specs.Scan.{inside_on, inside_off, inside-done}
 use mathlib.Core.Path.{refl, sym, ◌∙◌}
 use Prim.Native.Nat.{◌-◌}
@@ -13,7 +12,7 @@ pub returns-then-not-within : goal.returns-then-not-within
 returns-then-not-within c =
     let turn = c.before.before.before in
     let cs = turn.before.before.before.args.corners.now in
-    let outside = sym c.before.within.ensures ∙ not-true c.before.within.result c.if-not-within.true in
+    let outside = sym c.before.within.ensures ∙ c.if-not-within.true in
     sym (sym turn.before.loop-i.invariant.1 ∙ inside_off cs turn.before.loop-i.i turn.loop-i-test.true outside)
 
 pub loop-i-smaller : goal.loop-i-smaller
@@ -23,7 +22,7 @@ pub loop-i-preserved : goal.loop-i-preserved
 loop-i-preserved c =
     let turn = c.before.before.before in
     let cs = turn.before.before.before.args.corners.now in
-    let inside = sym c.before.within.ensures ∙ not-false c.before.within.result c.if-not-within.false in
+    let inside = sym c.before.within.ensures ∙ c.if-not-within.false in
     (omega arith, inside_on cs turn.before.loop-i.i turn.loop-i-test.true inside ∙ turn.before.loop-i.invariant.1)
 
 pub returns : goal.returns

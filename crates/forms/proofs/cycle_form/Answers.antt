@@ -5,26 +5,27 @@ use mathlib.Core.List.{List}
 use Prim.Native.Nat.{ℕ}
 use native.Mathlib.Omega.{arith}
 use lib.ListN.{length}
-use borrow.Author.Tests.{eq-eqb, ne_eqb, le-leb, lt-leb, lt-ltb, le-ltb, not-true, not-false}
+use borrow.Author.Tests.{eq-eqb, ne_eqb, le-leb, lt-leb, lt-ltb, le-ltb}
 use Rattle.lattice.specs.Directions.{x_of}
 use Rattle.lattice.specs.CycleForm.{cycle_form, all_inside, eastward, steps}
 use Rattle.forms.specs.Scan.{eastward_is}
 use Rattle.forms.proofs.cycle_form.Goals as goal
+use Rattle.forms.proofs.cycle_form.Tie as tie
 
 -- What is left of the test past the number of corners, and past their coordinates.
-abbrev corners3 : goal.Else-n-gt262144 → List ℕ
+abbrev corners3 : tie.Else-n-gt262144 → List ℕ
 corners3 c = c.before.before.before.before.args.corners.now
 
-abbrev corners4 : goal.Else-not-all_within → List ℕ
+abbrev corners4 : tie.Else-not-all_within → List ℕ
 corners4 c = corners3 c.before.before
 
-counted : (c : goal.Else-n-gt262144) → cycle_form (corners3 c) ≡ all_inside (corners3 c) && (eastward (corners3 c) && steps (corners3 c))
+counted : (c : tie.Else-n-gt262144) → cycle_form (corners3 c) ≡ all_inside (corners3 c) && (eastward (corners3 c) && steps (corners3 c))
 unfolding cycle_form
 counted c = simp (eq-eqb _ _ c.before.before.if-n-ne0.false, le-leb _ _ c.before.if-n-lt4.false, le-leb (length (corners3 c)) 262144 (omega (arith, c.if-n-gt262144.false)))
 
-inside : (c : goal.Else-not-all_within) → cycle_form (corners4 c) ≡ eastward (corners4 c) && steps (corners4 c)
+inside : (c : tie.Else-not-all_within) → cycle_form (corners4 c) ≡ eastward (corners4 c) && steps (corners4 c)
 inside c =
-    let a = sym c.before.all_within.ensures ∙ not-false c.before.all_within.result c.if-not-all_within.false in
+    let a = sym c.before.all_within.ensures ∙ c.if-not-all_within.false in
     counted c.before.before ∙ ap (λ (b : Bool). b && (eastward (corners4 c) && steps (corners4 c))) a
 
 pub returns-then-n-ne0 : goal.returns-then-n-ne0
@@ -42,7 +43,7 @@ returns-then-n-gt262144 c = simp (eq-eqb _ _ c.before.before.if-n-ne0.false, le-
 pub returns-then-not-all_within : goal.returns-then-not-all_within
 returns-then-not-all_within c =
     let cs = corners3 c.before.before in
-    let a = sym c.before.all_within.ensures ∙ not-true c.before.all_within.result c.if-not-all_within.true in
+    let a = sym c.before.all_within.ensures ∙ c.if-not-all_within.true in
     sym (counted c.before.before ∙ ap (λ (b : Bool). b && (eastward cs && steps cs)) a)
 
 pub returns-then-corners : goal.returns-then-corners

@@ -1,4 +1,4 @@
-use borrow.Author.Tests.{ne_eqb, not-true, not-false}
+use borrow.Author.Tests.{ne_eqb}
 use Rattle.lattice.specs.Parity.{is_even}
 use Rattle.forms.specs.Scan.{steps_from, steps_begin, steps_on, steps_off, steps_closing, steps_open}
 use mathlib.Core.Path.{◌≡◌, sym, ap, ◌∙◌}
@@ -16,7 +16,7 @@ unfolding is_even
 returns-then-not-goes_along c =
     let at = c.before.before.before.before.before in
     let cs = at.before.before.args.corners.now in
-    let off = sym c.before.goes_along.ensures ∙ not-true c.before.goes_along.result c.if-not-goes_along.true in
+    let off = sym c.before.goes_along.ensures ∙ c.if-not-goes_along.true in
     sym (sym at.loop-i.invariant.1 ∙ steps_off cs at.loop-i.i (omega arith) off)
 
 pub loop-i-smaller : goal.loop-i-smaller
@@ -27,7 +27,7 @@ unfolding is_even
 loop-i-preserved c =
     let at = c.before.before.before.before.before in
     let cs = at.before.before.args.corners.now in
-    let on = sym c.before.goes_along.ensures ∙ not-false c.before.goes_along.result c.if-not-goes_along.false in
+    let on = sym c.before.goes_along.ensures ∙ c.if-not-goes_along.false in
     (omega arith, steps_on cs at.loop-i.i (omega arith) on ∙ at.loop-i.invariant.1)
 
 pub returns-then-last-eq1 : goal.returns-then-last-eq1

@@ -3,22 +3,23 @@
 use native.Mathlib.Omega.{arith}
 use Rattle.least_order.specs.Regions.{can_count, can_arrange, clear_room, order_written}
 use Rattle.least_order.proofs.arrange.Goals as goal
+use Rattle.least_order.proofs.arrange.Tie as tie
 
 -- ---- the places: the call, the size worked out, the parents found, the children counted, the order written
 
-abbrev entry : goal.After-pixels-whole → goal.Start
+abbrev entry : tie.After-pixels-whole → tie.Start
 entry c = c.before.before.before.before.before.before
 
-abbrev sized : goal.After-find_parents → goal.After-pixels-whole
+abbrev sized : tie.After-find_parents → tie.After-pixels-whole
 sized c = c.before.before
 
-abbrev found : goal.After-count_children-arg-1 → goal.After-find_parents
+abbrev found : tie.After-count_children-arg-1 → tie.After-find_parents
 found c = c.before.before.before
 
-abbrev counted : goal.After-place_all-arg-2-1 → goal.After-count_children
+abbrev counted : tie.After-place_all-arg-2-1 → tie.After-count_children
 counted c = c.before.before.before.before
 
-abbrev written : goal.After-fill-arg-1 → goal.After-place_all
+abbrev written : tie.After-fill-arg-1 → tie.After-place_all
 written c = c.before.before.before.before.before
 
 pub find_parents-requires : goal.find_parents-requires

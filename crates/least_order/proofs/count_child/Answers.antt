@@ -2,9 +2,10 @@
 use native.Mathlib.Omega.{arith}
 use Rattle.least_order.specs.Counts.{parent_place, root_counted, count-place, child_counted}
 use Rattle.least_order.proofs.count_child.Goals as goal
+use Rattle.least_order.proofs.count_child.Tie as tie
 
 -- The call, from where a parent is known.
-abbrev entry : goal.Else-up-eq0 → goal.Start
+abbrev entry : tie.Else-up-eq0 → tie.Start
 entry c = c.before.before
 
 pub overflow_add-up : goal.overflow_add-up

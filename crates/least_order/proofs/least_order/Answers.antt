@@ -3,40 +3,41 @@
 use Rattle.least_order.specs.Promise.{list_refused, order_short, numbering_refused}
 use Rattle.least_order.specs.Accepting.{arrangeable, order_given}
 use Rattle.least_order.proofs.least_order.Goals as goal
+use Rattle.least_order.proofs.least_order.Tie as tie
 
 -- ---- the places: the call, a short order list checked, the regions numbered, the numbering accepted
 
-abbrev entry : goal.After-slice_known-3-1 → goal.Start
+abbrev entry : tie.After-slice_known-3-1 → tie.Start
 entry c = c.before.before.before.before.before.before
 
-abbrev short : goal.After-check-fault → goal.Then-order-codes
+abbrev short : tie.After-check-fault → tie.Then-order-codes
 short c = c.before
 
-abbrev long : goal.After-number-numbered → goal.Else-order-codes
+abbrev long : tie.After-number-numbered → tie.Else-order-codes
 long c = c.before.before.before
 
-abbrev numbered : goal.After-slice_known-5-1 → goal.After-number-numbered
+abbrev numbered : tie.After-slice_known-5-1 → tie.After-number-numbered
 numbered c = c.before.before.before.before
 
-abbrev accepted : goal.??After-arrange-arg3 → goal.Else-number-ne0
+abbrev accepted : tie.??After-arrange-arg3 → tie.Else-number-ne0
 accepted c = c.before.before.before
 
 pub returns-then-fault-ne0 : goal.returns-then-fault-ne0
 returns-then-fault-ne0 c =
     let a = (entry (short c.before).before).args in
-    list_refused a.n a.codes.now a.levels.now a.colours.now a.labels-1.now a.work-1.now a.order-1.now c.before.check-fault.ensures c.if-fault-ne0.true
+    list_refused a.n a.codes.now a.levels.now a.colours.now a.labels.now a.work.now a.order.now c.before.check-fault.ensures c.if-fault-ne0.true
 
 pub returns-then-order-codes : goal.returns-then-order-codes
 returns-then-order-codes c =
     let a = (entry (short c.before).before).args in
-    order_short a.n a.codes.now a.levels.now a.colours.now a.labels-1.now a.work-1.now a.order-1.now
+    order_short a.n a.codes.now a.levels.now a.colours.now a.labels.now a.work.now a.order.now
     c.before.check-fault.ensures c.if-fault-ne0.false (short c.before).if-order-codes.true
 
 pub returns-then-number-ne0 : goal.returns-then-number-ne0
 returns-then-number-ne0 c =
     let d = numbered c.before in
     let a = (entry (long d).before).args in
-    numbering_refused a.n a.codes.now a.levels.now a.colours.now a.labels-1.now a.work-1.now a.order-1.now
+    numbering_refused a.n a.codes.now a.levels.now a.colours.now a.labels.now a.work.now a.order.now
     (long d).if-order-codes.false d.number-numbered.ensures c.if-number-ne0.true
 
 pub arrange-requires : goal.arrange-requires

@@ -1,13 +1,14 @@
 -- `place` meets its contract: a number of which children are missing is passed over; from any other the way up is written.
 use Rattle.least_order.specs.Arranged.{number_within, passed_over, can_rise, placed_by_rising}
 use Rattle.least_order.proofs.place.Goals as goal
+use Rattle.least_order.proofs.place.Tie as tie
 
 -- ---- the places: the call, and where no child is missing
 
-abbrev entry : goal.After-slice_known-3-1 → goal.Start
+abbrev entry : tie.After-slice_known-3-1 → tie.Start
 entry c = c.before.before.before
 
-abbrev complete : goal.After-rise-arg-2-1 → goal.Else-work-v-ne0
+abbrev complete : tie.After-rise-arg-2-1 → tie.Else-work-v-ne0
 complete c = c.before.before
 
 pub bounds-work-v : goal.bounds-work-v

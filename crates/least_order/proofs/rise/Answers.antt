@@ -2,17 +2,19 @@ use Prim.Native.Nat.{◌+◌, ◌-◌, ◌≤◌, ◌<◌}
 use native.Mathlib.Omega.{arith}
 use lib.ListN.{get_or, length-set}
 use Rattle.least_order.specs.Arranged.{rises_begins, above_zero, place-free, number_small, parent_within_lem, parent_falls, count_within, parent_counted, risen_at_root, risen_to_wait, rises_on}
+use Rattle.least_order.proofs.rise.Invariants.{invariant-loop-whole, decreases-loop-whole}
 use Rattle.least_order.proofs.rise.Goals as goal
+use Rattle.least_order.proofs.rise.Tie as tie
 
 -- ---- the places: a turn of the loop, where u has a parent
 
-abbrev turn : goal.Else-up-eq0 → goal.At-loop-whole
+abbrev turn : tie.Else-up-eq0 invariant-loop-whole decreases-loop-whole → tie.At-loop-whole invariant-loop-whole decreases-loop-whole
 turn c = c.before.before
 
-parent_low : (c : goal.Else-up-eq0) → let l = (turn c).loop-whole in get_or l.work ((turn c).before.args.whole + l.u) 0 - 1 < l.u
+parent_low : (c : tie.Else-up-eq0 invariant-loop-whole decreases-loop-whole) → let l = (turn c).loop-whole in get_or l.work ((turn c).before.args.whole + l.u) 0 - 1 < l.u
 parent_low c = parent_falls (turn c).before.requires (turn c).loop-whole.invariant _ (above_zero _ c.if-up-eq0.false)
 
-small : (c : goal.Else-up-eq0) → ((turn c).loop-whole.u < (turn c).before.args.whole) × ((turn c).before.args.whole ≤ 65536)
+small : (c : tie.Else-up-eq0 invariant-loop-whole decreases-loop-whole) → ((turn c).loop-whole.u < (turn c).before.args.whole) × ((turn c).before.args.whole ≤ 65536)
 small c = number_small (turn c).before.requires (turn c).loop-whole.invariant
 
 pub loop-whole-init : goal.loop-whole-init
@@ -43,13 +45,13 @@ pub offset_bounds-work-p : goal.offset_bounds-work-p
 offset_bounds-work-p c = omega (arith, parent_low c, small c)
 
 pub bounds-work-p : goal.bounds-work-p
-bounds-work-p c = count_within (turn c.before).before.requires (turn c.before).loop-whole.invariant _ (above_zero _ c.before.if-up-eq0.false)
+bounds-work-p c = count_within (turn c.before).before.pre (turn c.before).loop-whole.invariant _ (above_zero _ c.before.if-up-eq0.false)
 
 pub overflow_sub-work : goal.overflow_sub-work
-overflow_sub-work c = omega (arith, parent_counted (turn c.before).before.requires (turn c.before).loop-whole.invariant _ (above_zero _ c.before.if-up-eq0.false))
+overflow_sub-work c = omega (arith, parent_counted (turn c.before).before.pre (turn c.before).loop-whole.invariant _ (above_zero _ c.before.if-up-eq0.false))
 
 pub bounds-work-p-in-loop-whole : goal.bounds-work-p-in-loop-whole
-bounds-work-p-in-loop-whole c = count_within (turn c.before).before.requires (turn c.before).loop-whole.invariant _ (above_zero _ c.before.if-up-eq0.false)
+bounds-work-p-in-loop-whole c = count_within (turn c.before).before.pre (turn c.before).loop-whole.invariant _ (above_zero _ c.before.if-up-eq0.false)
 
 pub offset_bounds-work-p-in-loop-whole : goal.offset_bounds-work-p-in-loop-whole
 offset_bounds-work-p-in-loop-whole c = omega (arith, parent_low c.before, small c.before)

@@ -3,22 +3,23 @@
 use Rattle.listing.specs.Regions.{block_skipped, region-next, region_small, region_listed}
 use native.Mathlib.Omega.{arith}
 use Rattle.listing.proofs.list_next.Goals as goal
+use Rattle.listing.proofs.list_next.Tie as tie
 
 -- ---- the places
 
-abbrev entry : goal.After-slice_known-4-1 → goal.Start
+abbrev entry : tie.After-slice_known-4-1 → tie.Start
 entry c = c.before.before.before.before.before.before.before
 
-abbrev start : goal.After-struct_known-1 → goal.Start
+abbrev start : tie.After-struct_known-1 → tie.Start
 start c = entry c.before.before
 
-abbrev first_block : goal.After-list_region-arg-5-1 → goal.Else-labels-i
+abbrev first_block : tie.After-list_region-arg-5-1 → tie.Else-labels-i
 first_block c = c.before.before.before.before.before
 
-abbrev listed : goal.After-areas-1 → goal.After-list_region-counts
+abbrev listed : tie.After-areas-1 → tie.After-list_region-counts
 listed c = c.before.before.before.before.before.before.before.before.before
 
-abbrev taken : goal.After-struct_known-2-1 → goal.Else-labels-i
+abbrev taken : tie.After-struct_known-2-1 → tie.Else-labels-i
 taken c = first_block (listed c.before).before
 
 pub returns-then-labels-i : goal.returns-then-labels-i

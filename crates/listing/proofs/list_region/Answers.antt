@@ -3,23 +3,25 @@ use Rattle.listing.specs.Chains.{first_small, chain_begin, place_now, place_smal
 use mathlib.Core.Path.{refl}
 use Prim.Native.Nat.{◌-◌, ◌+◌, ◌≤◌}
 use native.Mathlib.Omega.{arith}
+use Rattle.listing.proofs.list_region.Invariants.{invariant-loop-next, decreases-loop-next}
 use Rattle.listing.proofs.list_region.Goals as goal
+use Rattle.listing.proofs.list_region.Tie as tie
 
 -- ---- the places
 
-abbrev entry : goal.After-pixels-whole → goal.Start
+abbrev entry : tie.After-pixels-whole invariant-loop-next decreases-loop-next → tie.Start invariant-loop-next decreases-loop-next
 entry c = c.before.before.before.before.before.before.before
 
-abbrev start : goal.In-loop-next → goal.Start
+abbrev start : tie.In-loop-next invariant-loop-next decreases-loop-next → tie.Start invariant-loop-next decreases-loop-next
 start c = entry c.before.before
 
-abbrev inside : goal.After-list_block-arg-in-loop-next-4-1 → goal.In-loop-next
+abbrev inside : tie.After-list_block-arg-in-loop-next-4-1 invariant-loop-next decreases-loop-next → tie.In-loop-next invariant-loop-next decreases-loop-next
 inside c = c.before.before.before.before.before.before.before
 
-abbrev listed : goal.After-areas-1 → goal.After-list_block-listed
+abbrev listed : tie.After-areas-1 invariant-loop-next decreases-loop-next → tie.After-list_block-listed invariant-loop-next decreases-loop-next
 listed c = c.before.before.before.before.before.before.before.before.before
 
-abbrev turn : goal.After-areas-1 → goal.In-loop-next
+abbrev turn : tie.After-areas-1 invariant-loop-next decreases-loop-next → tie.In-loop-next invariant-loop-next decreases-loop-next
 turn c = inside (listed c).before
 
 pub overflow_add-next : goal.overflow_add-next
@@ -40,10 +42,10 @@ bounds-levels-j c =
     omega (arith, place_now (start d).requires d.before.loop-next.invariant d.loop-next-test.true, (start d).requires.equal)
 
 pub list_block-listed-requires : goal.list_block-listed-requires
-list_block-listed-requires c = let d = inside c in chain_block (start d).requires d.before.loop-next.invariant d.loop-next-test.true
+list_block-listed-requires c = let d = inside c in chain_block (start d).pre d.before.loop-next.invariant d.loop-next-test.true
 
-small : (c : goal.After-areas-1) → (turn c).before.before.pixels-whole.result + ((turn c).before.loop-next.next - 1) ≤ 131072
-small c = link_small (start (turn c)).requires (turn c).before.loop-next.invariant (turn c).loop-next-test.true (turn c).before.before.pixels-whole.ensures
+small : (c : tie.After-areas-1 invariant-loop-next decreases-loop-next) → (turn c).before.before.pixels-whole.result + ((turn c).before.loop-next.next - 1) ≤ 131072
+small c = link_small (start (turn c)).pre (turn c).before.loop-next.invariant (turn c).loop-next-test.true (turn c).before.before.pixels-whole.ensures
 
 pub overflow_add-next-in-loop-next : goal.overflow_add-next-in-loop-next
 overflow_add-next-in-loop-next c = omega (arith, small c)
@@ -53,7 +55,7 @@ offset_bounds-work-whole c = omega (arith, small c)
 
 pub bounds-work-whole : goal.bounds-work-whole
 bounds-work-whole c =
-    link_inside (start (turn c.before)).requires (turn c.before).before.loop-next.invariant (turn c.before).loop-next-test.true
+    link_inside (start (turn c.before)).pre (turn c.before).before.loop-next.invariant (turn c.before).loop-next-test.true
     (turn c.before).before.before.pixels-whole.ensures (listed c.before).list_block-listed.ensures
 
 pub overflow_cast-next : goal.overflow_cast-next
@@ -61,28 +63,28 @@ overflow_cast-next c = omega (arith, c.slice_known-in-loop-next-5-1.given ((turn
 
 pub loop-next-smaller : goal.loop-next-smaller
 loop-next-smaller c =
-    chain_less (start (turn c.before)).requires (turn c.before).before.loop-next.invariant (turn c.before).loop-next-test.true
+    chain_less (start (turn c.before)).pre (turn c.before).before.loop-next.invariant (turn c.before).loop-next-test.true
     (turn c.before).before.before.pixels-whole.ensures (listed c.before).list_block-listed.ensures refl
 
 pub loop-next-preserved : goal.loop-next-preserved
 loop-next-preserved c =
-    chain_again (start (turn c.before)).requires (turn c.before).before.loop-next.invariant (turn c.before).loop-next-test.true
+    chain_again (start (turn c.before)).pre (turn c.before).before.loop-next.invariant (turn c.before).loop-next-test.true
     (turn c.before).before.before.pixels-whole.ensures (listed c.before).list_block-listed.ensures refl
 
 pub shape_of-work : goal.shape_of-work
 shape_of-work c = c.before.loop-next.invariant.done.listed.long
 
 pub shape_of-owners : goal.shape_of-owners
-shape_of-owners c = same_owners (entry c.before.before).requires.next.room c.before.loop-next.invariant.done.listed
+shape_of-owners c = same_owners (entry c.before.before).pre.next.room c.before.loop-next.invariant.done.listed
 
 pub shape_of-ends : goal.shape_of-ends
-shape_of-ends c = same_ends (entry c.before.before).requires.next.room c.before.loop-next.invariant.done.listed
+shape_of-ends c = same_ends (entry c.before.before).pre.next.room c.before.loop-next.invariant.done.listed
 
 pub shape_of-corners : goal.shape_of-corners
-shape_of-corners c = same_corners (entry c.before.before).requires.next.room c.before.loop-next.invariant.done.listed
+shape_of-corners c = same_corners (entry c.before.before).pre.next.room c.before.loop-next.invariant.done.listed
 
 pub shape_of-areas : goal.shape_of-areas
-shape_of-areas c = same_areas (entry c.before.before).requires.next.room c.before.loop-next.invariant.done.listed
+shape_of-areas c = same_areas (entry c.before.before).pre.next.room c.before.loop-next.invariant.done.listed
 
 pub returns : goal.returns
-returns c = chain_finish (entry c.before.before).requires c.before.loop-next.invariant c.loop-next-test.false
+returns c = chain_finish (entry c.before.before).pre c.before.loop-next.invariant c.loop-next-test.false

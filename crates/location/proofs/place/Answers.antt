@@ -4,8 +4,9 @@ use Prim.Native.Nat.{◌*◌, ◌^◌, ◌≤◌}
 use native.Mathlib.Omega.{arith}
 use Rattle.location.specs.Places.{place_above, rows_before, place_is}
 use Rattle.location.proofs.place.Goals as goal
+use Rattle.location.proofs.place.Tie as tie
 
-rows_fit : (c : goal.After-side) → c.before.row-y.result * c.side.result ≤ 2 ^ 32
+rows_fit : (c : tie.After-side) → c.before.row-y.result * c.side.result ≤ 2 ^ 32
 rows_fit c =
     let low = c.before.before.before in
     rows_before low.before.args.n low.before.args.c low.if-n-gt16.false c.before.row-y.ensures c.side.ensures

@@ -2,18 +2,19 @@
 use native.Mathlib.Omega.{arith}
 use Rattle.map_blocks.specs.Appended.{piece_appendable, piece_appended, pixels_fit, pixels_appended}
 use Rattle.map_blocks.proofs.append_four.Goals as goal
+use Rattle.map_blocks.proofs.append_four.Tie as tie
 
 -- Where the call began, where the run was written, and where the four pixels were.
-abbrev entry : goal.After-one_colour → goal.Start
+abbrev entry : tie.After-one_colour → tie.Start
 entry c = c.before.before.before.before
 
-abbrev judged : goal.After-write_run-count → goal.After-one_colour
+abbrev judged : tie.After-write_run-count → tie.After-one_colour
 judged c = c.before.before.before.before.before
 
-abbrev run-done : goal.After-write_pixels → goal.After-write_run-count
+abbrev run-done : tie.After-write_pixels → tie.After-write_run-count
 run-done c = c.before.before.before.before.before.before.before.before.before.before
 
-abbrev pixels-done : goal.After-result-1 → goal.After-write_pixels
+abbrev pixels-done : tie.After-result-1 → tie.After-write_pixels
 pixels-done c = c.before.before.before.before.before.before.before
 
 pub append-requires : goal.append-requires
@@ -23,7 +24,7 @@ pub returns-then-one_colour : goal.returns-then-one_colour
 returns-then-one_colour c =
     let done = c.before.before.before.before.before.before in
     let alike = done.before.before.before.before.before in
-    piece_appended (entry alike.before).requires alike.before.one_colour_lem.ensures alike.if-one_colour.true done.append.ensures
+    piece_appended (entry alike.before).requires alike.before.one_colour.ensures alike.if-one_colour.true done.append.ensures
 
 pub write_pixels-requires : goal.write_pixels-requires
 write_pixels-requires c =
@@ -39,5 +40,5 @@ pub returns : goal.returns
 returns c =
     let done = pixels-done c in
     let w = run-done done in
-    pixels_appended (entry (judged w)).requires w.write_run-count.ensures (judged w).one_colour_lem.ensures w.before.before.before.before.if-one_colour.false
+    pixels_appended (entry (judged w)).requires w.write_run-count.ensures (judged w).one_colour.ensures w.before.before.before.before.if-one_colour.false
     done.write_pixels.ensures

@@ -3,21 +3,22 @@ use Prim.Native.Nat.{◌+◌}
 use native.Mathlib.Omega.{arith}
 use Rattle.map_blocks.specs.Painting.{FourAt, four_at, has_colour, four_known}
 use Rattle.map_blocks.proofs.four_colours.Goals as goal
+use Rattle.map_blocks.proofs.four_colours.Tie as tie
 
 -- Where the call began, and where each of the four colours is known.
-abbrev entry : goal.After-place-at → goal.Start
+abbrev entry : tie.After-place-at → tie.Start
 entry c = c.before.before.before.before
 
-abbrev nw-known : goal.After-colour_of-nw → goal.After-place-at
+abbrev nw-known : tie.After-colour_of-nw → tie.After-place-at
 nw-known c = c.before.before
 
-abbrev ne-known : goal.After-colour_of-ne → goal.After-place-at
+abbrev ne-known : tie.After-colour_of-ne → tie.After-place-at
 ne-known c = nw-known c.before.before
 
-abbrev sw-known : goal.After-colour_of-sw → goal.After-place-at
+abbrev sw-known : tie.After-colour_of-sw → tie.After-place-at
 sw-known c = ne-known c.before.before
 
-places : (c : goal.After-place-at) → FourAt (entry c).requires c.before.side-w.ensures c.place-at.ensures
+places : (c : tie.After-place-at) → FourAt (entry c).requires c.before.side-w.ensures c.place-at.ensures
 places c = four_at (entry c).requires c.before.side-w.ensures c.place-at.ensures
 
 pub offset_bounds-map-at : goal.offset_bounds-map-at
@@ -43,7 +44,7 @@ bounds-map-at-2 c = omega (arith, (places (nw-known c.before)).in_map)
 pub colour_of-ne-requires : goal.colour_of-ne-requires
 colour_of-ne-requires c =
     let d = nw-known c.before in
-    has_colour (entry d).requires d.before.side-w.ensures d.place-at.ensures ((entry d).args.c + 1) (places d).ne
+    has_colour (entry d).pre d.before.side-w.ensures d.place-at.ensures ((entry d).args.c + 1) (places d).ne
 
 pub overflow_add-at-2 : goal.overflow_add-at-2
 overflow_add-at-2 c = omega (arith, (places (ne-known c)).low)
@@ -57,7 +58,7 @@ bounds-map-at-3 c = omega (arith, (places (ne-known c.before)).in_map)
 pub colour_of-sw-requires : goal.colour_of-sw-requires
 colour_of-sw-requires c =
     let d = ne-known c.before in
-    has_colour (entry d).requires d.before.side-w.ensures d.place-at.ensures ((entry d).args.c + 2) (places d).sw
+    has_colour (entry d).pre d.before.side-w.ensures d.place-at.ensures ((entry d).args.c + 2) (places d).sw
 
 pub overflow_add-at-3 : goal.overflow_add-at-3
 overflow_add-at-3 c = omega (arith, (places (sw-known c)).low)
@@ -74,7 +75,7 @@ bounds-map-at-4 c = omega (arith, (places (sw-known c.before)).in_map)
 pub colour_of-se-requires : goal.colour_of-se-requires
 colour_of-se-requires c =
     let d = sw-known c.before in
-    has_colour (entry d).requires d.before.side-w.ensures d.place-at.ensures ((entry d).args.c + 3) (places d).se
+    has_colour (entry d).pre d.before.side-w.ensures d.place-at.ensures ((entry d).args.c + 3) (places d).se
 
 pub returns : goal.returns
 returns c =
@@ -82,5 +83,5 @@ returns c =
     let ne = sw.before.before in
     let nw = ne.before.before in
     let d = nw-known nw in
-    four_known (entry d).requires d.before.side-w.ensures d.place-at.ensures nw.colour_of-nw.ensures ne.colour_of-ne.ensures sw.colour_of-sw.ensures
+    four_known (entry d).pre d.before.side-w.ensures d.place-at.ensures nw.colour_of-nw.ensures ne.colour_of-ne.ensures sw.colour_of-sw.ensures
     c.colour_of-se.ensures

@@ -15,13 +15,13 @@ bounds-levels-at c = omega (arith, (pixel_room c.before.before.requires c.before
 pub bounds-colours-at : goal.bounds-colours-at
 bounds-colours-at c =
     let now = c.before in
-    omega (arith, (pixel_room now.before.before.requires now.before.loop-i.invariant now.loop-test.true).in_colours)
+    omega (arith, (pixel_room now.before.before.requires now.before.loop-i.invariant now.loop-i-test.true).in_colours)
 
 pub loop-i-smaller : goal.loop-i-smaller
 loop-i-smaller c = omega (arith, c.before.loop-i-test.true)
 
 pub loop-i-preserved : goal.loop-i-preserved
-loop-i-preserved c = let now = c.before in pixels-more now.before.before.requires now.before.loop-i.invariant now.loop-test.true
+loop-i-preserved c = let now = c.before in pixels-more now.before.before.requires now.before.loop-i.invariant now.loop-i-test.true
 
 pub shape_of-codes : goal.shape_of-codes
 shape_of-codes c = (pixels_same c.before.before.requires c.before.loop-i.invariant).for_codes

@@ -9,19 +9,20 @@ use Rattle.merging.specs.RasterNumber.{raster_number, raster_large, raster_unlik
 use Rattle.merging.specs.Promise.{blocks_fit, raster_refused, raster_merged}
 use Rattle.merging.specs.MergeLoop.{merged_few}
 use Rattle.merging.proofs.from_raster.Goals as goal
+use Rattle.merging.proofs.from_raster.Tie as tie
 
 -- Where n is at most 8: the number of pixels, and the least of the lengths.
-abbrev entry : goal.Else-n-gt8 → goal.Start
+abbrev entry : tie.Else-n-gt8 → tie.Start
 entry c = c.before.before.before.before.before.before.before.before
 
-whole : (c : goal.Else-n-gt8) → c.before.before.before.pixels-whole.result ≡ 4 ^ (entry c).args.n
+whole : (c : tie.Else-n-gt8) → c.before.before.before.pixels-whole.result ≡ 4 ^ (entry c).args.n
 whole c = c.before.before.before.pixels-whole.ensures ∙ pixels_are_power (entry c).args.n (omega (arith, c.if-n-gt8.false))
 
-room : (c : goal.Else-n-gt8) → let a = (entry c).args in c.before.least-room.result ≡ min (length a.codes-1.now) (min (length a.levels-1.now) (length a.colours-1.now))
+room : (c : tie.Else-n-gt8) → let a = (entry c).args in c.before.least-room.result ≡ min (length a.codes.now) (min (length a.levels.now) (length a.colours.now))
 room c = c.before.least-room.ensures ∙ ap (min (length (entry c).args.codes.now)) c.before.before.least.ensures
 
-accepted : (c : goal.Else-room-whole) → let a = (entry c.before.before).args in
-    raster_number a.n (length a.raster.now) (length a.codes-1.now) (length a.levels-1.now) (length a.colours-1.now) ≡ 0
+accepted : (c : tie.Else-room-whole) → let a = (entry c.before.before).args in
+    raster_number a.n (length a.raster.now) (length a.codes.now) (length a.levels.now) (length a.colours.now) ≡ 0
 accepted c =
     let low = c.before.before in
     let enough = c.if-room-whole.false in

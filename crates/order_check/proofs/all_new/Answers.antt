@@ -1,21 +1,23 @@
 use Prim.Native.Nat.{◌-◌}
 use native.Mathlib.Omega.{arith}
 use Rattle.order_check.specs.Along.{begin, all_pass, too_large, number_fits, met_before, is_new_lem}
+use Rattle.order_check.proofs.all_new.Invariants.{invariant-loop-i, decreases-loop-i}
 use Rattle.order_check.proofs.all_new.Goals as goal
+use Rattle.order_check.proofs.all_new.Tie as tie
 
 -- ---- the places: a turn of the loop, and the number read
 
-abbrev turn : goal.After-shared_slice_known-1 → goal.In-loop-i
+abbrev turn : tie.After-shared_slice_known-1 invariant-loop-i decreases-loop-i → tie.In-loop-i invariant-loop-i decreases-loop-i
 turn c = c.before
 
-abbrev low : goal.Else-order-v → goal.In-loop-i
+abbrev low : tie.Else-order-v invariant-loop-i decreases-loop-i → tie.In-loop-i invariant-loop-i decreases-loop-i
 low c = turn c.before
 
 pub loop-i-init : goal.loop-i-init
 loop-i-init c = begin _ c.requires
 
 pub overflow_cast-v : goal.overflow_cast-v
-overflow_cast-v c = omega (arith, c.shared_slice_known-1.given c.before.before.loop-i.i)
+overflow_cast-v c = omega (arith, c.shared-slice-known.given c.before.before.loop-i.i)
 
 pub shape_of-work-then-order-v : goal.shape_of-work-then-order-v
 shape_of-work-then-order-v c = (turn c.before).before.loop-i.invariant.passing.same_length

@@ -2,27 +2,27 @@
 use Rattle.sequences.specs.Cases.{not_flips}
 use Rattle.order_check.specs.Promise.{list_refused}
 use Rattle.order_check.specs.Accepting.{blank, nineteen, orderable, twenty, yes_right}
-use borrow.Author.Tests.{not-false}
 use Rattle.order_check.proofs.check_order.Goals as goal
+use Rattle.order_check.proofs.check_order.Tie as tie
 
 -- ---- the places: the call, the regions numbered, the numbering accepted, every region found once
 
-abbrev entry : goal.After-number-numbered → goal.Start
+abbrev entry : tie.After-number-numbered → tie.Start
 entry c = c.before.before.before.before.before.before.before.before.before
 
-abbrev numbered : goal.After-struct_known-1 → goal.After-number-numbered
+abbrev numbered : tie.After-struct_known-1 → tie.After-number-numbered
 numbered c = c.before.before.before.before.before
 
-abbrev accepted : goal.After-each_once-arg-1 → goal.Else-numbered-ne0
+abbrev accepted : tie.After-each_once-arg-1 → tie.Else-numbered-ne0
 accepted c = c.before.before
 
-abbrev tested : goal.After-slice_known-5-1 → goal.After-each_once-once
+abbrev tested : tie.After-slice_known-5-1 → tie.After-each_once-once
 tested c = c.before.before
 
-abbrev once : goal.??After-inside-out-arg2 → goal.Else-not-once
+abbrev once : tie.??After-inside-out-arg2 → tie.Else-not-once
 once c = c.before.before
 
-abbrev judged : goal.After-slice_known-6-1 → goal.After-inside_out-right
+abbrev judged : tie.After-slice_known-6-1 → tie.After-inside_out-right
 judged c = c.before.before
 
 pub returns-then-numbered-ne0 : goal.returns-then-numbered-ne0
@@ -44,7 +44,7 @@ inside_out-right-requires c =
     let t = tested o.before in
     let e = accepted t.before in
     let d = numbered e.before in
-    orderable d.number-numbered.ensures e.if-numbered-ne0.false (entry d).args.order.now t.each_once-once.ensures (not-false _ o.if-not-once.false)
+    orderable d.number-numbered.ensures e.if-numbered-ne0.false (entry d).args.order.now t.each_once-once.ensures o.if-not-once.false
 
 pub returns-then-right : goal.returns-then-right
 returns-then-right c =
@@ -53,7 +53,7 @@ returns-then-right c =
     let t = tested o.before in
     let e = accepted t.before in
     let d = numbered e.before in
-    yes_right d.number-numbered.ensures e.if-numbered-ne0.false (entry d).args.order.now t.each_once-once.ensures (not-false _ o.if-not-once.false) j.inside_out-right.ensures c.if-right.true
+    yes_right d.number-numbered.ensures e.if-numbered-ne0.false (entry d).args.order.now t.each_once-once.ensures o.if-not-once.false j.inside_out-right.ensures c.if-right.true
 
 pub returns : goal.returns
 returns c =
@@ -62,4 +62,4 @@ returns c =
     let t = tested o.before in
     let e = accepted t.before in
     let d = numbered e.before in
-    twenty d.number-numbered.ensures e.if-numbered-ne0.false (entry d).args.order.now t.each_once-once.ensures (not-false _ o.if-not-once.false) j.inside_out-right.ensures c.if-right.false
+    twenty d.number-numbered.ensures e.if-numbered-ne0.false (entry d).args.order.now t.each_once-once.ensures o.if-not-once.false j.inside_out-right.ensures c.if-right.false

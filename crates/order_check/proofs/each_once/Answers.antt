@@ -3,16 +3,17 @@ use mathlib.Core.Path.{refl, sym, ◌∙◌}
 use Rattle.forests.specs.Checking.{once_of_other_length}
 use Rattle.order_check.specs.Along.{blank_order, clear_room, as_before, once_tested}
 use Rattle.order_check.proofs.each_once.Goals as goal
+use Rattle.order_check.proofs.each_once.Tie as tie
 
 -- ---- the places: the call, the length that fits, the marks made
 
-abbrev entry : goal.Else-order-count → goal.Start
+abbrev entry : tie.Else-order-count → tie.Start
 entry c = c.before.before.before
 
-abbrev marked : goal.After-fill-arg-1 → goal.After-all_new-new
+abbrev marked : tie.After-fill-arg-1 → tie.After-all_new-new
 marked c = c.before.before.before
 
-abbrev fitting : goal.After-all_new-new → goal.Else-order-count
+abbrev fitting : tie.After-all_new-new → tie.Else-order-count
 fitting c = c.before.before
 
 pub returns-then-order-count : goal.returns-then-order-count

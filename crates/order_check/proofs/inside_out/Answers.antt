@@ -3,19 +3,20 @@
 use native.Mathlib.Omega.{arith}
 use Rattle.order_check.specs.Regions.{families, clear_room, judged}
 use Rattle.order_check.proofs.inside_out.Goals as goal
+use Rattle.order_check.proofs.inside_out.Tie as tie
 
 -- ---- the places: the call, the size worked out, the parents found, the order walked along
 
-abbrev entry : goal.After-pixels-whole → goal.Start
+abbrev entry : tie.After-pixels-whole → tie.Start
 entry c = c.before.before.before.before.before.before
 
-abbrev sized : goal.After-find_parents → goal.After-pixels-whole
+abbrev sized : tie.After-find_parents → tie.After-pixels-whole
 sized c = c.before.before
 
-abbrev found : goal.After-parents_last-arg-1 → goal.After-find_parents
+abbrev found : tie.After-parents_last-arg-1 → tie.After-find_parents
 found c = c.before.before.before
 
-abbrev walked : goal.After-fill-arg-1 → goal.After-parents_last-right
+abbrev walked : tie.After-fill-arg-1 → tie.After-parents_last-right
 walked c = c.before.before.before
 
 pub find_parents-requires : goal.find_parents-requires

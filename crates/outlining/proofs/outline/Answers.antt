@@ -3,22 +3,23 @@
 use Rattle.outlining.specs.Outlining.{linkable, fillable, map_and_links, used_low, clear_room, outlined}
 use native.Mathlib.Omega.{arith}
 use Rattle.outlining.proofs.outline.Goals as goal
+use Rattle.outlining.proofs.outline.Tie as tie
 
 -- ---- the places: the size is worked out, the blocks are linked, the map is filled, the cycles are listed, the work list is cleared
 
-abbrev entry : goal.After-pixels-whole → goal.Start
+abbrev entry : tie.After-pixels-whole → tie.Start
 entry c = c.before.before.before.before.before.before.before.before
 
-abbrev sized : goal.After-link → goal.After-pixels-whole
+abbrev sized : tie.After-link → tie.After-pixels-whole
 sized c = c.before.before
 
-abbrev linked : goal.After-fill_map-arg-1 → goal.After-link
+abbrev linked : tie.After-fill_map-arg-1 → tie.After-link
 linked c = c.before.before.before
 
-abbrev filled : goal.After-list_all-arg-5-1 → goal.After-fill_map
+abbrev filled : tie.After-list_all-arg-5-1 → tie.After-fill_map
 filled c = c.before.before.before.before.before.before.before
 
-abbrev listed : goal.After-fill-arg-1 → goal.After-list_all-counts
+abbrev listed : tie.After-fill-arg-1 → tie.After-list_all-counts
 listed c = c.before.before.before.before.before.before.before.before.before.before
 
 pub overflow_add-used : goal.overflow_add-used

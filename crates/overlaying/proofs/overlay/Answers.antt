@@ -9,46 +9,47 @@ use Rattle.quadtree.specs.Accepted.{number-zero}
 use Rattle.quadtree.specs.BlockLists.{list_of, number_of, RoomFor}
 use Rattle.overlaying.specs.Promise.{first_refused, second_refused, too_short, laid_over}
 use Rattle.overlaying.proofs.overlay.Goals as goal
+use Rattle.overlaying.proofs.overlay.Tie as tie
 
 -- Where the call began, and where the room is known, seen from where the first list is accepted.
-abbrev entry : goal.Else-first-ne0 → goal.Start
+abbrev entry : tie.Else-first-ne0 → tie.Start
 entry c = c.before.before.before.before.before.before.before.before.before.before.before.before.before.before
 
-abbrev measured : goal.Else-first-ne0 → goal.After-least-room
+abbrev measured : tie.Else-first-ne0 → tie.After-least-room
 measured c = c.before.before
 
 -- Where the first list is accepted, seen from where the second is.
-abbrev judged : goal.Else-second-ne0 → goal.Else-first-ne0
+abbrev judged : tie.Else-second-ne0 → tie.Else-first-ne0
 judged c = c.before.before
 
 -- Where the pass is done, and where it began.
-abbrev passed : goal.After-slice_known-6-1 → goal.After-lay_over-count
+abbrev passed : tie.After-slice_known-6-1 → tie.After-lay_over-count
 passed c = c.before.before.before.before.before.before
 
-abbrev begun : goal.After-lay_over-count → goal.Else-room-whole
+abbrev begun : tie.After-lay_over-count → tie.Else-room-whole
 begun c = c.before.before.before.before
 
 pub returns-then-first-ne0 : goal.returns-then-first-ne0
 returns-then-first-ne0 c = first_refused _ _ _ _ c.before.check-first.ensures c.if-first-ne0.true
 
 -- Both lists accepted; the number of pixels, and the least of the three lengths.
-first_accepted : (c : goal.Else-first-ne0) → let a = (entry c).args in number_of a.n (list_of a.first-codes.now a.first-levels.now a.first-colours.now) ≡ 0
+first_accepted : (c : tie.Else-first-ne0) → let a = (entry c).args in number_of a.n (list_of a.first-codes.now a.first-levels.now a.first-colours.now) ≡ 0
 first_accepted c = sym c.before.check-first.ensures ∙ c.if-first-ne0.false
 
-second_accepted : (c : goal.Else-second-ne0) → let a = (entry (judged c)).args in
+second_accepted : (c : tie.Else-second-ne0) → let a = (entry (judged c)).args in
     number_of a.n (list_of a.second-codes.now a.second-levels.now a.second-colours.now) ≡ 0
 second_accepted c = sym c.before.check-second.ensures ∙ c.if-second-ne0.false
 
-small : (c : goal.Else-first-ne0) → (entry c).args.n ≤ 8
+small : (c : tie.Else-first-ne0) → (entry c).args.n ≤ 8
 small c = (number-zero _ _ _ _ (first_accepted c)).small
 
-whole : (c : goal.Else-first-ne0) → (measured c).before.before.pixels-whole.result ≡ 4 ^ (entry c).args.n
+whole : (c : tie.Else-first-ne0) → (measured c).before.before.pixels-whole.result ≡ 4 ^ (entry c).args.n
 whole c = (measured c).before.before.pixels-whole.ensures ∙ pixels_are_power (entry c).args.n (omega (arith, small c))
 
-room : (c : goal.Else-first-ne0) → let a = (entry c).args in (measured c).least-room.result ≡ min (length a.codes-1.now) (min (length a.levels-1.now) (length a.colours-1.now))
+room : (c : tie.Else-first-ne0) → let a = (entry c).args in (measured c).least-room.result ≡ min (length a.codes.now) (min (length a.levels.now) (length a.colours.now))
 room c = (measured c).least-room.ensures ∙ ap (min (length (entry c).args.codes.now)) (measured c).before.least.ensures
 
-enough : (c : goal.Else-room-whole) → let a = (entry (judged c.before)).args in RoomFor (4 ^ a.n) (list_of a.codes-1.now a.levels-1.now a.colours-1.now)
+enough : (c : tie.Else-room-whole) → let a = (entry (judged c.before)).args in RoomFor (4 ^ a.n) (list_of a.codes.now a.levels.now a.colours.now)
 enough c =
     let from = judged c.before in
     let long = c.if-room-whole.false in

@@ -1,16 +1,17 @@
 -- `find_parents` meets its contract: the map is filled, all regions are settled on it, and an entry a region is cleared.
 use Rattle.parents.specs.Promise.{fillable, all_next, clear_room, parents_found}
 use Rattle.parents.proofs.find_parents.Goals as goal
+use Rattle.parents.proofs.find_parents.Tie as tie
 
 -- ---- the places: the call, the map filled, the regions settled
 
-abbrev entry : goal.After-fill_map-arg-1 → goal.Start
+abbrev entry : tie.After-fill_map-arg-1 → tie.Start
 entry c = c.before.before.before.before.before
 
-abbrev filled : goal.After-settle_all-arg-1 → goal.After-fill_map
+abbrev filled : tie.After-settle_all-arg-1 → tie.After-fill_map
 filled c = c.before.before.before
 
-abbrev settled : goal.After-fill-arg-1 → goal.After-settle_all
+abbrev settled : tie.After-fill-arg-1 → tie.After-settle_all
 settled c = c.before.before.before
 
 pub fill_map-requires : goal.fill_map-requires

@@ -2,19 +2,20 @@
 use native.Mathlib.Omega.{arith}
 use Rattle.parents.specs.NorthOf.{parent_of_top, NorthBounds, north_bounds, read_unmarked, ParentOfNorth, read_marked}
 use Rattle.parents.proofs.parent_at.Goals as goal
+use Rattle.parents.proofs.parent_at.Tie as tie
 
 -- ---- the places: the call, below the first row, the numbers of the image worked out, the entry to the north read
 
-abbrev entry : goal.Else-y-eq0 → goal.Start
+abbrev entry : tie.Else-y-eq0 → tie.Start
 entry c = c.before.before
 
-abbrev lower : goal.After-pixels-whole → goal.Else-y-eq0
+abbrev lower : tie.After-pixels-whole → tie.Else-y-eq0
 lower c = c.before.before
 
-abbrev sized : goal.Else-north-lt-MARK_BIT → goal.After-pixels-whole
+abbrev sized : tie.Else-north-lt-MARK_BIT → tie.After-pixels-whole
 sized c = c.before.before
 
-bounds : (c : goal.After-pixels-whole) → NorthBounds (entry (lower c)).requires c.before.side-side.ensures c.pixels-whole.ensures (lower c).if-y-eq0.false
+bounds : (c : tie.After-pixels-whole) → NorthBounds (entry (lower c)).requires c.before.side-side.ensures c.pixels-whole.ensures (lower c).if-y-eq0.false
 bounds c = north_bounds (entry (lower c)).requires c.before.side-side.ensures c.pixels-whole.ensures (lower c).if-y-eq0.false
 
 pub returns-then-y-eq0 : goal.returns-then-y-eq0
@@ -40,7 +41,7 @@ returns-then-north-lt-MARK_BIT c =
 pub overflow_add-result : goal.overflow_add-result
 overflow_add-result c = omega (arith, (bounds (sized c)).whole_low)
 
-marked : (c : goal.Else-north-lt-MARK_BIT) → let d = sized c in ParentOfNorth (entry (lower d)).requires d.before.side-side.ensures d.pixels-whole.ensures (lower d).if-y-eq0.false
+marked : (c : tie.Else-north-lt-MARK_BIT) → let d = sized c in ParentOfNorth (entry (lower d)).requires d.before.side-side.ensures d.pixels-whole.ensures (lower d).if-y-eq0.false
 marked c =
     let d = sized c in
     read_marked (entry (lower d)).requires d.before.side-side.ensures d.pixels-whole.ensures (lower d).if-y-eq0.false c.if-north-lt-MARK_BIT.false

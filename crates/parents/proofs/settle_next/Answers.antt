@@ -4,16 +4,17 @@ use native.Mathlib.Omega.{arith}
 use Rattle.parents.specs.OneRegion.{region_low}
 use Rattle.parents.specs.Blocks.{block_skipped, region-next, region_passed}
 use Rattle.parents.proofs.settle_next.Goals as goal
+use Rattle.parents.proofs.settle_next.Tie as tie
 
 -- ---- the places: the call, the first block of its region, the region settled
 
-abbrev entry : goal.After-shared_slice_known-3-1 → goal.Start
+abbrev entry : tie.After-shared_slice_known-3-1 → tie.Start
 entry c = c.before.before.before.before
 
-abbrev settled : goal.After-slice_known-2-1 → goal.After-settle
+abbrev settled : tie.After-slice_known-2-1 → tie.After-settle
 settled c = c.before.before
 
-abbrev first_block : goal.After-settle → goal.Else-labels-i
+abbrev first_block : tie.After-settle → tie.Else-labels-i
 first_block c = c.before.before.before
 
 pub bounds-labels-i : goal.bounds-labels-i

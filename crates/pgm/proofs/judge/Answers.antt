@@ -10,16 +10,17 @@ use Rattle.pgm.specs.Judging.{shape_answered, above_answered, short_judged, stor
 use Rattle.pgm.specs.declared.shape.Shape.{Shape}
 use borrow.Author.Tests.{ltb-true, ltb-false}
 use Rattle.pgm.proofs.judge.Goals as goal
+use Rattle.pgm.proofs.judge.Tie as tie
 
 -- Past 13 the shape is known.
-known : (c : goal.In-Samples)
-    → let a = c.before.before.before.before.before.before.args in let v = c.before.n-1.given.0 in
+known : (c : tie.In-Samples)
+    → let a = c.before.before.before.before.before.before.args in let v = c.before.n.given.0 in
     shaped (record { width = a.width; height = a.height; maxval = a.maxval }) (length a.bytes.now) ≡ Shape.Samples v.0 v.1.0 v.1.1.0
-known c = sym c.before.before.before.shape_of.ensures ∙ c.before.n-1.given.1
+known c = sym c.before.before.before.shape_of.ensures ∙ c.before.in-Samples.is
 
 -- So there are bytes for all samples.
-room : (c : goal.In-Samples)
-    → let a = c.before.before.before.before.before.before.args in let v = c.before.n-1.given.0 in
+room : (c : tie.In-Samples)
+    → let a = c.before.before.before.before.before.before.args in let v = c.before.n.given.0 in
     sample_bytes v.1.1.0 * v.1.0 ≤ length a.bytes.now
 room c = omega (arith, (shape_facts _ _ (known c)).full)
 
@@ -48,7 +49,7 @@ pub overflow_cast-written : goal.overflow_cast-written
 overflow_cast-written c = omega (arith, (shape_facts _ _ (known c.before.before.before.before.before.before.before)).few)
 
 pub returns-in-Refused : goal.returns-in-Refused
-returns-in-Refused c = rw c.refusal.ensures (shape_answered _ _ _ (sym c.before.before.before.before.shape_of.ensures ∙ c.before.before.number-1.given.1))
+returns-in-Refused c = rw c.refusal.ensures (shape_answered _ _ _ (sym c.before.before.before.before.shape_of.ensures ∙ c.before.before.in-Refused.is))
 
 pub returns-else-short : goal.returns-else-short
 returns-else-short c =

@@ -2,9 +2,10 @@
 use native.Mathlib.Omega.{arith}
 use Rattle.pixel_numbers.specs.Neighbours.{Entry, entry}
 use Rattle.pixel_numbers.proofs.colour_at.Goals as goal
+use Rattle.pixel_numbers.proofs.colour_at.Tie as tie
 
 -- The entry of the pixel.
-read : (c : goal.After-side) → let a = c.before.before.before.args in Entry a.n a.colours.now a.work.now a.x a.y c.side.result
+read : (c : tie.After-side) → let a = c.before.before.before.args in Entry a.n a.colours.now a.work.now a.x a.y c.side.result
 read c = entry c.before.before.before.requires c.side.ensures
 
 pub overflow_mul-number : goal.overflow_mul-number

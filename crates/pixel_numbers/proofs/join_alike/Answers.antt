@@ -5,12 +5,13 @@ use lib.ListN.{length}
 use Rattle.pixel_numbers.specs.Parents.{part_inside}
 use Rattle.pixel_numbers.specs.Neighbours.{x_byte, y_byte, unlike, joinable, alike}
 use Rattle.pixel_numbers.proofs.join_alike.Goals as goal
+use Rattle.pixel_numbers.proofs.join_alike.Tie as tie
 
 -- Where the colours are equal: where the call began, and that the part that is lent lies in the work list.
-abbrev start : goal.Then-colour_at-own → goal.Start
+abbrev start : tie.Then-colour_at-own → tie.Start
 start c = c.before.before.before.before.before
 
-inside : (c : goal.After-pixels-whole) → (c.pixels-whole.result ≤ 65536) × (2 * c.pixels-whole.result ≤ length (start c.before).args.work.now)
+inside : (c : tie.After-pixels-whole) → (c.pixels-whole.result ≤ 65536) × (2 * c.pixels-whole.result ≤ length (start c.before).args.work.now)
 inside c = let g = (start c.before).requires.at.given in part_inside g.small c.pixels-whole.ensures g.room
 
 pub overflow_mul-whole : goal.overflow_mul-whole
@@ -31,8 +32,8 @@ join-requires c = joinable (start c.before.before.before).requires c.before.befo
 pub returns-then-colour_at-own : goal.returns-then-colour_at-own
 returns-then-colour_at-own c =
     let t = c.before.before.before.before.before.before in
-    alike (start t).requires c.before.before.before.before.before.pixels-whole.ensures c.before.before.before.code8.ensures t.before.colour_at_lem.ensures
+    alike (start t).requires c.before.before.before.before.before.pixels-whole.ensures c.before.before.before.code8.ensures t.before.colour_at.ensures
     t.if-colour_at-own.true c.before.before.join.ensures
 
 pub returns-else-colour_at-own : goal.returns-else-colour_at-own
-returns-else-colour_at-own c = unlike c.before.before.before.before.before.requires c.before.colour_at_lem.ensures c.if-colour_at-own.false
+returns-else-colour_at-own c = unlike c.before.before.before.before.before.requires c.before.colour_at.ensures c.if-colour_at-own.false

@@ -2,13 +2,15 @@ use Prim.Native.Nat.{◌-◌, ◌^◌, ◌<◌}
 use native.Mathlib.Omega.{arith}
 use Rattle.pixel_numbers.specs.Parents.{whole_is, part_inside}
 use Rattle.pixel_numbers.specs.Pixels.{begin, pixel_next, again, finish}
+use Rattle.pixel_numbers.proofs.join_pixels.Invariants.{invariant-loop-c, decreases-loop-c}
 use Rattle.pixel_numbers.proofs.join_pixels.Goals as goal
+use Rattle.pixel_numbers.proofs.join_pixels.Tie as tie
 
 -- In a turn: where the call began, and that the pixel is one of the image.
-abbrev start : goal.In-loop-c → goal.Start
+abbrev start : tie.In-loop-c invariant-loop-c decreases-loop-c → tie.Start invariant-loop-c decreases-loop-c
 start c = c.before.before.before.before.before.before
 
-inside : (c : goal.In-loop-c) → c.before.loop-c.c < 4 ^ (start c).args.n
+inside : (c : tie.In-loop-c invariant-loop-c decreases-loop-c) → c.before.loop-c.c < 4 ^ (start c).args.n
 inside c = omega (arith, whole_is (start c).requires.given.small c.before.before.before.pixels-end.ensures, c.loop-c-test.true)
 
 pub overflow_cast-end : goal.overflow_cast-end

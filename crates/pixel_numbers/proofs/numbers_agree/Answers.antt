@@ -6,21 +6,22 @@ use lib.ListN.{length}
 use Rattle.pixel_numbers.specs.Parents.{part_inside}
 use Rattle.pixel_numbers.specs.Answer.{few_lent, all_next, roots_inside, roots_lent, count_differs, numbered, count_agrees}
 use Rattle.pixel_numbers.proofs.numbers_agree.Goals as goal
+use Rattle.pixel_numbers.proofs.numbers_agree.Tie as tie
 
 -- The places that are cited: where the call began, each pixel made its own parent, all joined, the roots numbered.
-abbrev start : goal.After-pixels-whole → goal.Start
+abbrev start : tie.After-pixels-whole → tie.Start
 start c = c.before.before.before
 
-abbrev size : goal.After-own_parents → goal.After-pixels-whole
+abbrev size : tie.After-own_parents → tie.After-pixels-whole
 size c = c.before.before
 
-abbrev own : goal.After-join_pixels → goal.After-own_parents
+abbrev own : tie.After-join_pixels → tie.After-own_parents
 own c = c.before.before.before.before
 
-abbrev joined : goal.After-number_all-count → goal.After-join_pixels
+abbrev joined : tie.After-number_all-count → tie.After-join_pixels
 joined c = c.before.before.before.before
 
-inside : (c : goal.After-pixels-whole) → (c.pixels-whole.result ≤ 65536) × (2 * c.pixels-whole.result ≤ length (start c).args.work.now)
+inside : (c : tie.After-pixels-whole) → (c.pixels-whole.result ≤ 65536) × (2 * c.pixels-whole.result ≤ length (start c).args.work.now)
 inside c = let g = (start c).requires in part_inside g.small c.pixels-whole.ensures g.room
 
 pub overflow_mul-whole : goal.overflow_mul-whole
@@ -39,7 +40,7 @@ pub join_pixels-requires : goal.join_pixels-requires
 join_pixels-requires c =
     let o = c.before.before.before in
     let s = size o in
-    all_next (start s).requires s.pixels-whole.ensures o.own_parents.ensures
+    all_next (start s).pre s.pixels-whole.ensures o.own_parents.ensures
 
 pub overflow_mul-whole-2 : goal.overflow_mul-whole-2
 overflow_mul-whole-2 c = omega (arith, (inside (size (own c.before.before))).0)
@@ -52,14 +53,14 @@ slice_bounds-number_all-end c =
     let j = c.before.before in
     let o = own j in
     let s = size o in
-    roots_inside (start s).requires s.pixels-whole.ensures o.own_parents.ensures j.join_pixels.ensures
+    roots_inside (start s).pre s.pixels-whole.ensures o.own_parents.ensures j.join_pixels.ensures
 
 pub number_all-count-requires : goal.number_all-count-requires
 number_all-count-requires c =
     let j = c.before.before.before in
     let o = own j in
     let s = size o in
-    roots_lent (start s).requires s.pixels-whole.ensures o.own_parents.ensures j.join_pixels.ensures
+    roots_lent (start s).pre s.pixels-whole.ensures o.own_parents.ensures j.join_pixels.ensures
 
 pub returns-then-count-colours : goal.returns-then-count-colours
 returns-then-count-colours c =
@@ -67,7 +68,7 @@ returns-then-count-colours c =
     let j = joined k in
     let o = own j in
     let s = size o in
-    count_differs (start s).requires s.pixels-whole.ensures o.own_parents.ensures j.join_pixels.ensures k.number_all-count.ensures.0
+    count_differs (start s).pre s.pixels-whole.ensures o.own_parents.ensures j.join_pixels.ensures k.number_all-count.ensures.0
     k.number_all-count.ensures.1 c.if-count-colours.true
 
 pub same_numbers-requires : goal.same_numbers-requires
@@ -76,7 +77,7 @@ same_numbers-requires c =
     let j = joined k in
     let o = own j in
     let s = size o in
-    numbered (start s).requires s.pixels-whole.ensures o.own_parents.ensures j.join_pixels.ensures k.number_all-count.ensures.0 k.number_all-count.ensures.1
+    numbered (start s).pre s.pixels-whole.ensures o.own_parents.ensures j.join_pixels.ensures k.number_all-count.ensures.0 k.number_all-count.ensures.1
 
 pub returns : goal.returns
 returns c =
@@ -84,5 +85,5 @@ returns c =
     let j = joined k in
     let o = own j in
     let s = size o in
-    count_agrees (start s).requires s.pixels-whole.ensures o.own_parents.ensures j.join_pixels.ensures k.number_all-count.ensures.0
+    count_agrees (start s).pre s.pixels-whole.ensures o.own_parents.ensures j.join_pixels.ensures k.number_all-count.ensures.0
     k.number_all-count.ensures.1 c.before.before.if-count-colours.false c.same_numbers.ensures

@@ -5,8 +5,9 @@ use native.Mathlib.Omega.{arith}
 use lib.ListN.{length, length-take}
 use Rattle.printing.specs.Deciding.{long_printed, two_digits, refused_printed, few, samples-inside, eight_printed, drawing, count_fits, lines-printed}
 use Rattle.printing.proofs.print.Goals as goal
+use Rattle.printing.proofs.print.Tie as tie
 
-inside : (c : goal.After-struct_known-1) → let read = c.before.before.before.before.before.read-found in read.result.count ≤ length read.new.1.0
+inside : (c : tie.After-struct_known-1) → let read = c.before.before.before.before.before.read-found in read.result.count ≤ length read.new.1.0
 inside c =
     let read = c.before.before.before.before.before in
     samples-inside (omega (arith, read.before.before.if-bytes-gt-INPUT_LIMIT.false)) (omega arith) read.read-found.ensures c.before.before.before.if-number-ne0.false

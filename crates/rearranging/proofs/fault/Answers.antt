@@ -5,9 +5,10 @@ use native.Mathlib.Omega.{arith}
 use Rattle.location.specs.Levels.{pixels_are_power}
 use Rattle.rearranging.specs.Promise.{rearrange_large, rearrange_unlike, rearrange_short, rearrange_accepted}
 use Rattle.rearranging.proofs.fault.Goals as goal
+use Rattle.rearranging.proofs.fault.Tie as tie
 
 -- Where n is at most 8: the number of pixels.
-whole : (c : goal.After-pixels-whole) → c.pixels-whole.result ≡ 4 ^ c.before.before.args.n
+whole : (c : tie.After-pixels-whole) → c.pixels-whole.result ≡ 4 ^ c.before.before.args.n
 whole c = c.pixels-whole.ensures ∙ pixels_are_power c.before.before.args.n (omega (arith, c.before.if-n-gt8.false))
 
 pub returns-then-n-gt8 : goal.returns-then-n-gt8

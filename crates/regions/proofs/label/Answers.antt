@@ -1,15 +1,16 @@
 -- Each block its own parent, the walk, the work list cleared, then the roots numbered: the laws of the walk say what this comes to.
 use Rattle.regions.specs.Labelling.{few, walkable, few_parents, labelled}
 use Rattle.regions.proofs.label.Goals as goal
+use Rattle.regions.proofs.label.Tie as tie
 
 -- The function's entry, the parents, and the walk from where the walk is done and from where the work list is cleared.
-abbrev entry : goal.After-own_parents → goal.Start
+abbrev entry : tie.After-own_parents → tie.Start
 entry c = c.before.before.before.before.before.before.before
 
-abbrev parents : goal.After-walk → goal.After-own_parents
+abbrev parents : tie.After-walk → tie.After-own_parents
 parents c = c.before.before.before.before.before
 
-abbrev walked : goal.After-fill → goal.After-walk
+abbrev walked : tie.After-fill → tie.After-walk
 walked c = c.before.before.before.before.before.before
 
 pub own_parents-requires : goal.own_parents-requires

@@ -8,19 +8,20 @@ use native.Mathlib.Omega.{arith}
 use Rattle.regions.specs.Promise.{list_refused, labels_short, work_short}
 use Rattle.regions.specs.Labelling.{need_is, numberable, written}
 use Rattle.regions.proofs.number.Goals as goal
+use Rattle.regions.proofs.number.Tie as tie
 
 -- The check, and the function's entry, from where what the work list needs is worked out.
-abbrev checked : goal.After-pixels-need → goal.After-check-fault
+abbrev checked : tie.After-pixels-need → tie.After-check-fault
 checked c = c.before.before.before
 
-abbrev entry : goal.After-pixels-need → goal.Start
+abbrev entry : tie.After-pixels-need → tie.Start
 entry c = (checked c).before.before.before.before.before.before
 
 -- There the list is accepted, and `need` is what the work list needs.
-accepted : (c : goal.After-pixels-need) → number (entry c).args.n (entry c).args.codes.now (entry c).args.levels.now (entry c).args.colours.now ≡ 0
+accepted : (c : tie.After-pixels-need) → number (entry c).args.n (entry c).args.codes.now (entry c).args.levels.now (entry c).args.colours.now ≡ 0
 accepted c = sym (checked c).check-fault.ensures ∙ c.before.before.if-fault-ne0.false
 
-need : (c : goal.After-pixels-need) → (c.pixels-need.result ≤ 65536) × (2 * c.pixels-need.result ≡ 2 * 4 ^ (entry c).args.n)
+need : (c : tie.After-pixels-need) → (c.pixels-need.result ≤ 65536) × (2 * c.pixels-need.result ≡ 2 * 4 ^ (entry c).args.n)
 need c = need_is _ _ _ _ (accepted c) c.pixels-need.ensures
 
 pub returns-then-fault-ne0 : goal.returns-then-fault-ne0

@@ -5,7 +5,6 @@ use Prim.Native.Nat.{◌*◌, ◌^◌, ◌≤◌}
 use native.Mathlib.Omega.{arith}
 use lib.ListN.{length, take}
 use lib.Seq.{length-take-le}
-use borrow.Author.Tests.{not-false}
 use Rattle.sequences.specs.Says.{denied}
 use Rattle.sequences.specs.Fill.{length-fill}
 use Rattle.sequences.specs.Powers.{pow4_mono}
@@ -17,35 +16,36 @@ use Rattle.restoring.specs.Lengths.{NeedsMet, needs_met}
 use Rattle.given_outlines.specs.Counts.{CountsFit, owners_as_ends}
 use Rattle.restoring.specs.Restored.{counts_refused, restored, part_back}
 use Rattle.restoring.proofs.blocks_from_outlines.Goals as goal
+use Rattle.restoring.proofs.blocks_from_outlines.Tie as tie
 
 -- Where the call began, seen from where the lengths are judged; and that, seen from where the need is known.
-abbrev entry : goal.After-one_short → goal.Start
+abbrev entry : tie.After-one_short → tie.Start
 entry c = c.before.before.before.before.before.before.before.before.before.before
 
-abbrev measured : goal.After-pixels-need → goal.After-one_short
+abbrev measured : tie.After-pixels-need → tie.After-one_short
 measured c = c.before.before
 
-small : (c : goal.After-one_short) → (entry c).args.n ≤ 8
+small : (c : tie.After-one_short) → (entry c).args.n ≤ 8
 small c = c.before.if-n-gt8.false
 
-long : (c : goal.After-pixels-need) → let a = (entry (measured c)).args in is_too_short a.n (list_of a.codes-1.now a.levels-1.now a.colours-1.now) a.work-1.now ≡ false
-long c = sym (measured c).one_short_lem.ensures ∙ c.before.if-one_short.false
+long : (c : tie.After-pixels-need) → let a = (entry (measured c)).args in is_too_short a.n (list_of a.codes.now a.levels.now a.colours.now) a.work.now ≡ false
+long c = sym (measured c).one_short.ensures ∙ c.before.if-one_short.false
 
-enough : (c : goal.After-pixels-need) → let a = (entry (measured c)).args in NeedsMet a.n (list_of a.codes-1.now a.levels-1.now a.colours-1.now) a.work-1.now
+enough : (c : tie.After-pixels-need) → let a = (entry (measured c)).args in NeedsMet a.n (list_of a.codes.now a.levels.now a.colours.now) a.work.now
 enough c = needs_met _ _ _ (long c)
 
-need : (c : goal.After-pixels-need) → 8 * c.pixels-need.result ≡ 8 * 4 ^ (entry (measured c)).args.n
+need : (c : tie.After-pixels-need) → 8 * c.pixels-need.result ≡ 8 * 4 ^ (entry (measured c)).args.n
 need c = ap (λ k. 8 * k) (c.pixels-need.ensures ∙ pixels_are_power (entry (measured c)).args.n (omega (arith, small (measured c))))
 
 -- Where the counts fit; that, seen from where the part is lent; and where it was lent, seen from the end.
-fits : (c : goal.Else-not-counts_fit) → let a = (entry (measured c.before.before)).args in
+fits : (c : tie.Else-not-counts_fit) → let a = (entry (measured c.before.before)).args in
     CountsFit (given_as a.regions a.cycles a.corner-count (outline_lists a.owners.now a.ends.now a.corners.now a.region-colours.now))
-fits c = c.before.counts_fit.ensures.0 (not-false _ c.if-not-counts_fit.false)
+fits c = c.before.counts_fit.ensures.0 c.if-not-counts_fit.false
 
-abbrev judged : goal.??After-restore-arg8 → goal.Else-not-counts_fit
+abbrev judged : tie.??After-restore-arg8 → tie.Else-not-counts_fit
 judged c = c.before.before.before.before.before.before.before.before
 
-abbrev back : goal.After-slice_known-8-1 → goal.After-restore
+abbrev back : tie.After-slice_known-8-1 → tie.After-restore
 back c = c.before.before.before.before.before.before.before.before
 
 pub returns-then-n-gt8 : goal.returns-then-n-gt8
@@ -54,7 +54,7 @@ returns-then-n-gt8 c = rw c.refused.ensures (side_too_large _ _ _ _ c.before.if-
 pub returns-then-one_short : goal.returns-then-one_short
 returns-then-one_short c =
     let d = c.before.before in
-    rw c.refused-then-one_short.ensures (one_too_short _ _ _ _ (small d) (sym d.one_short_lem.ensures ∙ c.before.if-one_short.true))
+    rw c.refused-then-one_short.ensures (one_too_short _ _ _ _ (small d) (sym d.one_short.ensures ∙ c.before.if-one_short.true))
 
 pub overflow_mul-need : goal.overflow_mul-need
 overflow_mul-need c = omega (arith, need c, pow4_mono (small (measured c)))
@@ -102,7 +102,7 @@ pub slice_bounds-restore-end-5 : goal.slice_bounds-restore-end-5
 slice_bounds-restore-end-5 c = let d = c.before.before.before.before.before.before.before.before.before in omega (arith, need d, (enough d).for_work)
 
 -- The part that is lent has the entries that are needed.
-part-long : (c : goal.After-pixels-need) → let w = (entry (measured c)).args.work.now in length (take (8 * c.pixels-need.result) w) ≡ 8 * c.pixels-need.result
+part-long : (c : tie.After-pixels-need) → let w = (entry (measured c)).args.work.now in length (take (8 * c.pixels-need.result) w) ≡ 8 * c.pixels-need.result
 part-long c = length-take-le (8 * c.pixels-need.result) (entry (measured c)).args.work.now (omega (arith, need c, (enough c).for_work))
 
 pub slice_bounds-restore-end-6 : goal.slice_bounds-restore-end-6

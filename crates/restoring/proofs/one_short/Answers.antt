@@ -7,8 +7,9 @@ use Rattle.sequences.specs.Powers.{pow4_mono}
 use Rattle.location.specs.Levels.{pixels_are_power}
 use Rattle.restoring.specs.Lengths.{codes_short, levels_short, colours_short, by_work}
 use Rattle.restoring.proofs.one_short.Goals as goal
+use Rattle.restoring.proofs.one_short.Tie as tie
 
-whole : (c : goal.After-pixels-whole) → c.pixels-whole.result ≡ 4 ^ c.before.args.n
+whole : (c : tie.After-pixels-whole) → c.pixels-whole.result ≡ 4 ^ c.before.args.n
 whole c = c.pixels-whole.ensures ∙ pixels_are_power c.before.args.n (omega (arith, c.before.requires))
 
 pub returns-then-codes-whole : goal.returns-then-codes-whole

@@ -3,32 +3,32 @@ use mathlib.Core.Path.{◌≡◌, ap, ◌∙◌}
 use Prim.Native.Nat.{◌*◌, ◌^◌}
 use native.Mathlib.Omega.{arith}
 use lib.ListN.{length}
-use borrow.Author.Tests.{not-true, not-false}
 use Rattle.sequences.specs.Fill.{length-fill}
 use Rattle.sequences.specs.Powers.{pow4_mono}
 use Rattle.restoring.specs.Restored.{paintable, all_given_back, none_given_back, cleared}
 use Rattle.restoring.proofs.restore.Goals as goal
+use Rattle.restoring.proofs.restore.Tie as tie
 
 -- Where the call began, seen from where the outlines are judged.
-abbrev entry : goal.After-has_image → goal.Start
+abbrev entry : tie.After-has_image → tie.Start
 entry c = c.before.before.before.before.before.before.before.before.before.before
 
 -- Where they are judged, seen from where there is an image; that, seen from where its blocks are written; and that, seen from the end.
-abbrev judged : goal.Else-not-has_image → goal.After-has_image
+abbrev judged : tie.Else-not-has_image → tie.After-has_image
 judged c = c.before.before.before
 
-abbrev known : goal.After-write_blocks-count → goal.Else-not-has_image
+abbrev known : tie.After-write_blocks-count → tie.Else-not-has_image
 known c = c.before.before.before.before.before
 
-abbrev written : goal.After-slice_known-9-1 → goal.After-write_blocks-count
+abbrev written : tie.After-slice_known-9-1 → tie.After-write_blocks-count
 written c = c.before.before.before.before.before.before.before.before.before.before
 
 -- Where there is none, seen from where the answer is given.
-abbrev unknown : goal.After-slice_known-then-not-has_image-1 → goal.After-has_image
+abbrev unknown : tie.After-slice_known-then-not-has_image-1 → tie.After-has_image
 unknown c = c.before.before.before.before.before.before.before
 
 -- The work list is as long as at the beginning.
-still-long : (c : goal.After-has_image) → length c.has_image.new.1.1.1.1.1.0 ≡ 8 * 4 ^ (entry c).args.n
+still-long : (c : tie.After-has_image) → length c.has_image.new.1.1.1.1.1.0 ≡ 8 * 4 ^ (entry c).args.n
 still-long c = c.has_image.ensures.long ∙ (entry c).requires.judgeable.room
 
 pub no_image-requires : goal.no_image-requires
@@ -42,13 +42,13 @@ shape_of-work-then-not-has_image c =
 pub returns-then-not-has_image : goal.returns-then-not-has_image
 returns-then-not-has_image c =
     let j = unknown c in
-    none_given_back (entry j).requires (j.has_image.ensures.none (not-true _ c.before.before.before.before.if-not-has_image.true)) c.before.before.no_image.ensures.0
-    (cleared j.has_image.last.1.1.1.1.1.0 (still-long j) (entry j).requires.judgeable.room c.before.before.no_image.ensures.1)
+    none_given_back (entry j).pre (j.has_image.ensures.none c.before.before.before.before.if-not-has_image.true) c.before.before.no_image.ensures.0
+    (cleared j.has_image.last.1.1.1.1.1.0 (still-long j) (entry j).pre.judgeable.room c.before.before.no_image.ensures.1)
 
 pub write_blocks-count-requires : goal.write_blocks-count-requires
 write_blocks-count-requires c =
     let e = c.before.before.before.before in
-    paintable (entry (judged e)).requires ((judged e).has_image.ensures.found (not-false _ e.if-not-has_image.false))
+    paintable (entry (judged e)).requires ((judged e).has_image.ensures.found e.if-not-has_image.false)
 
 pub overflow_cast-count : goal.overflow_cast-count
 overflow_cast-count c =
@@ -56,7 +56,7 @@ overflow_cast-count c =
     omega (arith, w.write_blocks-count.ensures.few, pow4_mono (entry (judged (known w))).requires.judgeable.small)
 
 pub fill-requires : goal.fill-requires
-fill-requires c = let j = judged (known c.before.before.before.before.before.before.before) in omega (arith, still-long j, (entry j).requires.judgeable.room)
+fill-requires c = let j = judged (known c.before.before.before.before.before.before.before) in omega (arith, still-long j, (entry j).pre.judgeable.room)
 
 pub shape_of-codes : goal.shape_of-codes
 shape_of-codes c = (written c).write_blocks-count.ensures.same.for_codes
@@ -76,5 +76,5 @@ pub returns : goal.returns
 returns c =
     let e = known (written c) in
     let j = judged e in
-    all_given_back (entry j).requires (j.has_image.ensures.found (not-false _ e.if-not-has_image.false)) (written c).write_blocks-count.ensures
-    (cleared j.has_image.last.1.1.1.1.1.0 (still-long j) (entry j).requires.judgeable.room c.before.before.fill.ensures)
+    all_given_back (entry j).pre (j.has_image.ensures.found e.if-not-has_image.false) (written c).write_blocks-count.ensures
+    (cleared j.has_image.last.1.1.1.1.1.0 (still-long j) (entry j).pre.judgeable.room c.before.before.fill.ensures)

@@ -13,7 +13,7 @@ pub returns-then-not-passes : goal.returns-then-not-passes
 returns-then-not-passes c =
     let t = c.before.before in
     let l = t.before in
-    unmarked_found l.loop.invariant l.before.pixels-count.ensures l.before.before.side.ensures t.loop-i-test.true c.before.passes.ensures c.if-not-passes.true
+    unmarked_found l.loop.invariant l.before.pixels.ensures l.before.before.side.ensures t.loop-i-test.true c.before.passes.ensures c.if-not-passes.true
 
 pub loop-i-smaller : goal.loop-i-smaller
 loop-i-smaller c = omega (arith, c.before.before.loop-i-test.true)
@@ -22,7 +22,7 @@ pub loop-i-preserved : goal.loop-i-preserved
 loop-i-preserved c =
     let t = c.before.before in
     let l = t.before in
-    again l.loop.invariant l.before.pixels-count.ensures l.before.before.side.ensures t.loop-i-test.true c.before.passes.ensures c.if-not-passes.false
+    again l.loop.invariant l.before.pixels.ensures l.before.before.side.ensures t.loop-i-test.true c.before.passes.ensures c.if-not-passes.false
 
 pub returns : goal.returns
 returns c = finish c.before.loop-i.invariant c.before.before.pixels-count.ensures c.loop-i-test.false

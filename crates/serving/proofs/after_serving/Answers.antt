@@ -10,17 +10,18 @@ use Rattle.serving.specs.Queue.{to_the_back, closes}
 use Rattle.serving.specs.States.{unused, in_eight, front, state_of, holds_queue}
 use Rattle.serving.specs.Places.{back_of, back_more, back_none, unused-behind}
 use Rattle.serving.proofs.after_serving.Goals as goal
+use Rattle.serving.proofs.after_serving.Tie as tie
 
 -- Those behind the front.
-abbrev behind : goal.After-with_last-next → List OpenOutline
+abbrev behind : tie.After-with_last-next → List OpenOutline
 behind c = let a = c.before.before.before.before.args in take (a.size - 1) (drop 1 a.t1)
 
-behind-long : (c : goal.After-with_last-next) → length (behind c) ≡ c.before.before.before.before.args.size - 1
+behind-long : (c : tie.After-with_last-next) → length (behind c) ≡ c.before.before.before.before.args.size - 1
 behind-long c =
     let b = c.before.before.before.before in
     length-take-le (b.args.size - 1) (drop 1 b.args.t1) (omega (arith, b.requires, b.well-formed.0, length-drop 1 b.args.t1))
 
-next_is : (c : goal.After-with_last-next)
+next_is : (c : tie.After-with_last-next)
     → let a = c.before.before.before.before.args in c.with_last-next.result ≡ in_eight (behind c ++ back_of a.due (front a.t1) ∷ [])
 next_is c =
     let b = c.before.before.before.before in

@@ -9,20 +9,21 @@ use Rattle.serving.specs.Queue.{is_open, joined, not-below, already_open, eight_
 use Rattle.serving.specs.States.{queue_of, in_eight, holds_queue}
 use Rattle.serving.specs.Promise.{refuses, accepts}
 use Rattle.serving.proofs.open_cycle.Goals as goal
+use Rattle.serving.proofs.open_cycle.Tie as tie
 
 -- What the search found.
-looked : (c : goal.After-is_open) → let a = c.before.before.before.before.args in is_open a.cycle (queue_of a.state) ≡ c.is_open.result
+looked : (c : tie.After-is_open) → let a = c.before.before.before.before.args in is_open a.cycle (queue_of a.state) ≡ c.is_open.result
 unfolding queue_of
 looked c =
     let a = c.before.before.before.before.args in
-    ap (λ j. is_open a.cycle (take j a.state.outlines-1)) (sym c.before.open_count-size.ensures) ∙ sym c.is_open.ensures.0
+    ap (λ j. is_open a.cycle (take j a.state.outlines)) (sym c.before.open_count-size.ensures) ∙ sym c.is_open.ensures.0
 
 -- How many are open.
-sized : (c : goal.After-is_open) → length (queue_of c.before.before.before.before.args.state) ≡ c.before.open_count-size.result
+sized : (c : tie.After-is_open) → length (queue_of c.before.before.before.before.args.state) ≡ c.before.open_count-size.result
 unfolding queue_of
 sized c =
     let a = c.before.before.before.before.args in
-    omega (arith, c.before.open_count-size.ensures, c.is_open.ensures.1, length-take (min 8 a.state.length) a.state.outlines-1)
+    omega (arith, c.before.open_count-size.ensures, c.is_open.ensures.1, length-take (min 8 a.state.length) a.state.outlines)
 
 pub returns-then-count-cycle : goal.returns-then-count-cycle
 returns-then-count-cycle c = let a = c.before.args in refuses a.state a.cycle a.count 21 (not-below (queue_of a.state) a.cycle a.count c.if-count-cycle.true)
@@ -48,7 +49,7 @@ returns c =
     let a = c.before.before.before.before.before.before.before.args in
     let q : List OpenOutline = queue_of a.state in
     let new : OpenOutline = record { cycle = a.cycle; handed = 0 } in
-    let kept = c.with_last.ensures ∙ ap (λ j. in_eight (take j a.state.outlines-1 ++ new ∷ [])) i.before.open_count-size.ensures in
+    let kept = c.with_last.ensures ∙ ap (λ j. in_eight (take j a.state.outlines ++ new ∷ [])) i.before.open_count-size.ensures in
     accepts a.state a.cycle a.count _
     (may_open q a.cycle a.count c.before.before.before.before.before.before.if-count-cycle.false (looked i ∙ c.before.before.if-is_open.false)
     (omega (arith, sized i, c.before.if-size-ge8.false)))

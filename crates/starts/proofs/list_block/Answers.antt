@@ -2,19 +2,20 @@
 use Rattle.starts.specs.Blocks.{side_low, top-row-next, top-row_listed}
 use native.Mathlib.Omega.{arith}
 use Rattle.starts.proofs.list_block.Goals as goal
+use Rattle.starts.proofs.list_block.Tie as tie
 
 -- ---- the places
 
-abbrev entry : goal.After-side-width → goal.Start
+abbrev entry : tie.After-side-width → tie.Start
 entry c = c.before.before.before.before.before.before.before
 
-abbrev worked-out : goal.After-list_row-arg-5-1 → goal.After-side-width
+abbrev worked-out : tie.After-list_row-arg-5-1 → tie.After-side-width
 worked-out c = c.before.before.before.before.before
 
-abbrev listed : goal.After-areas-1 → goal.After-list_row
+abbrev listed : tie.After-areas-1 → tie.After-list_row
 listed c = c.before.before.before.before.before.before.before.before.before
 
-abbrev there : goal.After-areas-1 → goal.After-side-width
+abbrev there : tie.After-areas-1 → tie.After-side-width
 there c = worked-out (listed c).before
 
 pub overflow_cast-width : goal.overflow_cast-width
@@ -23,7 +24,7 @@ overflow_cast-width c = omega (arith, side_low (entry c).requires, c.side-width.
 pub list_row-requires : goal.list_row-requires
 list_row-requires c =
     let d = worked-out c in
-    top-row-next (entry d).requires d.before.before.column-x.ensures d.before.row-y.ensures d.side-width.ensures
+    top-row-next (entry d).pre d.before.before.column-x.ensures d.before.row-y.ensures d.side-width.ensures
 
 pub returns : goal.returns
 returns c =

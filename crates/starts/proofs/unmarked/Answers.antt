@@ -2,13 +2,14 @@
 use native.Mathlib.Omega.{arith}
 use Rattle.starts.specs.Unmarked.{row_fits, entry-below, entry-inside, entry_marked, entry-first-row, north_same, north_other, row_above_entry}
 use Rattle.starts.proofs.unmarked.Goals as goal
+use Rattle.starts.proofs.unmarked.Tie as tie
 
 -- ---- the places
 
-abbrev start : goal.After-side-side → goal.Start
+abbrev start : tie.After-side-side → tie.Start
 start c = c.before.before
 
-abbrev worked-out : goal.Else-y-eq0 → goal.After-side-side
+abbrev worked-out : tie.Else-y-eq0 → tie.After-side-side
 worked-out c = c.before.before.before
 
 pub overflow_mul-i : goal.overflow_mul-i
@@ -38,16 +39,16 @@ pub offset_bounds-map-i-2 : goal.offset_bounds-map-i-2
 offset_bounds-map-i-2 c = omega (arith, entry-below (start (worked-out c)).requires (worked-out c).side-side.ensures)
 
 pub bounds-map-i-2 : goal.bounds-map-i-2
-bounds-map-i-2 c = let d = worked-out c.before in omega (arith, entry-inside (start d).requires d.side-side.ensures)
+bounds-map-i-2 c = let d = worked-out c.before in omega (arith, entry-inside (start d).pre d.side-side.ensures)
 
 pub returns-then-north-here : goal.returns-then-north-here
 returns-then-north-here c =
     let e = c.before.before in
     let d = worked-out e in
-    north_same (start d).requires d.side-side.ensures e.before.if-here-ge-MARK_BIT.false e.if-y-eq0.false c.if-north-here.true
+    north_same (start d).pre d.side-side.ensures e.before.if-here-ge-MARK_BIT.false e.if-y-eq0.false c.if-north-here.true
 
 pub returns : goal.returns
 returns c =
     let e = c.before.before in
     let d = worked-out e in
-    north_other (start d).requires d.side-side.ensures e.before.if-here-ge-MARK_BIT.false e.if-y-eq0.false c.if-north-here.false
+    north_other (start d).pre d.side-side.ensures e.before.if-here-ge-MARK_BIT.false e.if-y-eq0.false c.if-north-here.false

@@ -4,13 +4,14 @@ use Prim.Native.Nat.{◌-◌, ◌*◌, ◌≤◌}
 use native.Mathlib.Omega.{arith}
 use Rattle.steps.specs.Look.{at_west, at_north, at_east, at_south, at_entry, entry-below, row_small}
 use Rattle.steps.proofs.look.Goals as goal
+use Rattle.steps.proofs.look.Tie as tie
 
 -- The function's entry, from where all four tests failed, and the row's place there.
-abbrev entry : goal.Else-side-y → goal.Start
+abbrev entry : tie.Else-side-y → tie.Start
 entry c = c.before.before.before.before
 
-row-place : (c : goal.Else-side-y) → ((entry c).args.y - 1) * (entry c).args.side ≤ 65536
-row-place c = let f = entry c in row_small f.args.side (f.args.y - 1) f.requires.small (omega arith)
+row-place : (c : tie.Else-side-y) → ((entry c).args.y - 1) * (entry c).args.side ≤ 65536
+row-place c = let f = entry c in row_small f.args.side (f.args.y - 1) f.pre.small (omega arith)
 
 pub returns-then-x-eq0 : goal.returns-then-x-eq0
 returns-then-x-eq0 c = let a = c.before.args in sym (at_west a.side a.map.now a.x a.y c.if-x-eq0.true)

@@ -5,9 +5,10 @@ use native.Mathlib.Omega.{arith}
 use lib.ListN.{length}
 use Rattle.stretches.specs.Stretch.{stretch_fits, part_at}
 use Rattle.stretches.proofs.cycle.Goals as goal
+use Rattle.stretches.proofs.cycle.Tie as tie
 
 -- The end of the place.
-fits : (c : goal.After-cycle_place-place) → let p = c.cycle_place-place.result-1 in p.start + p.length ≤ length c.before.before.before.args.corners.now
+fits : (c : tie.After-cycle_place-place) → let p = c.cycle_place-place.result in p.start + p.length ≤ length c.before.before.before.args.corners.now
 fits c =
     let a = c.before.before.before.args in
     let p = c.cycle_place-place.ensures in
@@ -25,4 +26,4 @@ slice_bounds-result-end c = omega (arith, fits c.before)
 pub returns : goal.returns
 returns c =
     let place = c.before.before.cycle_place-place in
-    record { corners_are = part_at place.result-1 place.ensures; same_memory = refl; lies_at = omega (arith, place.ensures.start_is) }
+    record { corners_are = part_at place.result place.ensures; same_memory = refl; lies_at = omega (arith, place.ensures.start_is) }

@@ -5,12 +5,13 @@ use native.Mathlib.Omega.{arith}
 use lib.ListN.{length, get_or}
 use Rattle.stretches.specs.Stretch.{begin_of, end_of, place_is, none_of_count, none_of_ends, none_backward, none_past, some_stretch}
 use Rattle.stretches.proofs.cycle_place.Goals as goal
+use Rattle.stretches.proofs.cycle_place.Tie as tie
 
 -- The cycle is one of those listed, and its stretch does not begin after its end.
-abbrev listed : goal.Else-e-a → goal.Else-ends-i
+abbrev listed : tie.Else-e-a → tie.Else-ends-i
 listed c = c.before.before.before
 
-forward : (c : goal.Else-e-a) → let a = (listed c).before.before.before.before.args in begin_of a.ends.now a.k ≤ end_of a.ends.now a.k
+forward : (c : tie.Else-e-a) → let a = (listed c).before.before.before.before.args in begin_of a.ends.now a.k ≤ end_of a.ends.now a.k
 unfolding end_of
 forward c = omega (arith, c.before.before.begin-a.ensures, c.if-e-a.false)
 

@@ -4,24 +4,24 @@ use mathlib.Core.Bool.{true}
 use mathlib.Core.List.{List}
 use Prim.Native.Nat.{ℕ}
 use native.Mathlib.Omega.{arith}
-use borrow.Author.Tests.{not-true, not-false}
 use Rattle.lattice.specs.CycleForm.{cycle_form, parts}
 use Rattle.answers.specs.Answers.{answers_cause, answers_short, answers_all}
 use Rattle.svg.specs.Svg.{svg_number, svg_need, need_suffices}
 use Rattle.svg.proofs.svg.Goals as goal
+use Rattle.svg.proofs.svg.Tie as tie
 
 -- The corners past the test, which are a cycle form.
-abbrev corners1 : goal.Else-not-cycle_form → List ℕ
+abbrev corners1 : tie.Else-not-cycle_form → List ℕ
 corners1 c = c.before.before.before.before.args.corners.now
 
-form : (c : goal.Else-not-cycle_form) → cycle_form (corners1 c) ≡ true
-form c = sym c.before.cycle_form_lem.ensures ∙ not-false c.before.cycle_form_lem.result c.if-not-cycle_form.false
+form : (c : tie.Else-not-cycle_form) → cycle_form (corners1 c) ≡ true
+form c = sym c.before.cycle_form.ensures ∙ c.if-not-cycle_form.false
 
 pub returns-then-not-cycle_form : goal.returns-then-not-cycle_form
 unfolding svg_number
 returns-then-not-cycle_form c =
     let cs = c.before.before.before.before.args.corners.now in
-    let none = sym c.before.cycle_form_lem.ensures ∙ not-true c.before.cycle_form_lem.result c.if-not-cycle_form.true in
+    let none = sym c.before.cycle_form.ensures ∙ c.if-not-cycle_form.true in
     answers_cause 16 (cycle_form cs) (svg_need cs) _ 15 refl none refl refl
 
 pub returns-then-text-corners : goal.returns-then-text-corners

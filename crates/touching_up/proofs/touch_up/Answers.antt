@@ -13,66 +13,67 @@ use Rattle.quadtree.specs.Accepted.{number-zero}
 use Rattle.quadtree.specs.BlockLists.{list_of, number_of, RoomFor}
 use Rattle.touching_up.specs.Promise.{outside, not_outside, list_refused, pixel_outside, too_short, all_repainted}
 use Rattle.touching_up.proofs.touch_up.Goals as goal
+use Rattle.touching_up.proofs.touch_up.Tie as tie
 
 -- Where the call began, and where the room is known, seen from where the list is accepted.
-abbrev entry : goal.Else-number-ne0 → goal.Start
+abbrev entry : tie.Else-number-ne0 → tie.Start
 entry c = c.before.before.before.before.before.before.before.before.before.before.before.before.before
 
-abbrev measured : goal.Else-number-ne0 → goal.After-least-room
+abbrev measured : tie.Else-number-ne0 → tie.After-least-room
 measured c = c.before.before.before.before
 
 -- Where the list is accepted, seen from where the pixel is inside; where the room is enough, from where the code is known.
-abbrev judged : goal.Else-beyond → goal.Else-number-ne0
+abbrev judged : tie.Else-beyond → tie.Else-number-ne0
 judged c = c.before
 
-abbrev enough : goal.After-code-pixel → goal.Else-room-whole
+abbrev enough : tie.After-code-pixel → tie.Else-room-whole
 enough c = c.before
 
 -- Where the pass is done, and where its code was known.
-abbrev passed : goal.After-slice_known-6-1 → goal.After-repaint-count
+abbrev passed : tie.After-slice_known-6-1 → tie.After-repaint-count
 passed c = c.before.before.before.before.before.before
 
-abbrev coded : goal.After-repaint-count → goal.After-code-pixel
+abbrev coded : tie.After-repaint-count → tie.After-code-pixel
 coded c = c.before.before.before.before
 
 pub returns-then-number-ne0 : goal.returns-then-number-ne0
 returns-then-number-ne0 c = list_refused _ _ _ _ _ _ c.before.check-number.ensures c.if-number-ne0.true
 
-accepted : (c : goal.Else-number-ne0) → let a = (entry c).args in number_of a.n (list_of a.codes.now a.levels.now a.colours.now) ≡ 0
+accepted : (c : tie.Else-number-ne0) → let a = (entry c).args in number_of a.n (list_of a.codes.now a.levels.now a.colours.now) ≡ 0
 accepted c = sym c.before.check-number.ensures ∙ c.if-number-ne0.false
 
-small : (c : goal.Else-number-ne0) → (entry c).args.n ≤ 8
+small : (c : tie.Else-number-ne0) → (entry c).args.n ≤ 8
 small c = (number-zero _ _ _ _ (accepted c)).small
 
-whole : (c : goal.Else-number-ne0) → (measured c).before.before.pixels-whole.result ≡ 4 ^ (entry c).args.n
+whole : (c : tie.Else-number-ne0) → (measured c).before.before.pixels-whole.result ≡ 4 ^ (entry c).args.n
 whole c = (measured c).before.before.pixels-whole.ensures ∙ pixels_are_power (entry c).args.n (omega (arith, small c))
 
-room : (c : goal.Else-number-ne0) → let a = (entry c).args in (measured c).least-room.result ≡ min (length a.new_codes-1.now) (min (length a.new_levels-1.now) (length a.new_colours-1.now))
+room : (c : tie.Else-number-ne0) → let a = (entry c).args in (measured c).least-room.result ≡ min (length a.new-codes.now) (min (length a.new-levels.now) (length a.new-colours.now))
 room c = (measured c).least-room.ensures ∙ ap (min (length (entry c).args.new-codes.now)) (measured c).before.least.ensures
 
-lent : (c : goal.Else-room-whole) → let a = (entry (judged c.before)).args in RoomFor (4 ^ a.n) (list_of a.new_codes-1.now a.new_levels-1.now a.new_colours-1.now)
+lent : (c : tie.Else-room-whole) → let a = (entry (judged c.before)).args in RoomFor (4 ^ a.n) (list_of a.new-codes.now a.new-levels.now a.new-colours.now)
 lent c =
     let from = judged c.before in
     let long = c.if-room-whole.false in
     record { in_codes = omega (arith, long, room from, whole from); in_levels = omega (arith, long, room from, whole from); in_colours = omega (arith, long, room from, whole from) }
 
 -- Whether the pixel lies outside. Inside, 16 bits hold its coordinates, and its code has no more digits than the image.
-asked : (c : goal.Else-number-ne0) → let a = (entry c).args in c.before.before.outside-beyond.result ≡ outside (2 ^ a.n) a.x a.y
+asked : (c : tie.Else-number-ne0) → let a = (entry c).args in c.before.before.outside-beyond.result ≡ outside (2 ^ a.n) a.x a.y
 asked c =
     let a = (entry c).args in
     let call = c.before.before in
     call.outside-beyond.ensures ∙ ap (λ (w : ℕ). outside w a.x a.y) (call.before.side.ensures ∙ side_is_power a.n (omega (arith, small c)))
 
-inside : (c : goal.Else-beyond) → let a = (entry (judged c)).args in outside (2 ^ a.n) a.x a.y ≡ false
+inside : (c : tie.Else-beyond) → let a = (entry (judged c)).args in outside (2 ^ a.n) a.x a.y ≡ false
 inside c = sym (asked (judged c)) ∙ c.if-beyond.false
 
-below : (c : goal.Else-beyond) → let a = (entry (judged c)).args in (a.x < 2 ^ a.n) × (a.y < 2 ^ a.n) × (2 ^ a.n ≤ 256)
+below : (c : tie.Else-beyond) → let a = (entry (judged c)).args in (a.x < 2 ^ a.n) × (a.y < 2 ^ a.n) × (2 ^ a.n ≤ 256)
 below c =
     let a = (entry (judged c)).args in
     let pixel = not_outside (2 ^ a.n) a.x a.y (inside c) in
     (pixel.0, pixel.1, pow2_mono (small (judged c)))
 
-pixel-code : (c : goal.After-code-pixel) → let a = (entry (judged (enough c).before)).args in c.code-pixel.result ≡ code a.n a.x a.y
+pixel-code : (c : tie.After-code-pixel) → let a = (entry (judged (enough c).before)).args in c.code-pixel.result ≡ code a.n a.x a.y
 pixel-code c =
     let at = (enough c).before in
     let a = (entry (judged at)).args in

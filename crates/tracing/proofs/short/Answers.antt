@@ -6,17 +6,18 @@ use Rattle.sequences.specs.Powers.{pow4_mono}
 use Rattle.location.specs.Levels.{pixels_are_power}
 use Rattle.tracing.specs.Tracing.{Lent, lent, too_few_labels, too_short_work, too_few_owners, too_few_ends, too_few_corners, by_areas}
 use Rattle.tracing.proofs.short.Goals as goal
+use Rattle.tracing.proofs.short.Tie as tie
 
-abbrev entry : goal.After-pixels-whole → goal.Start
+abbrev entry : tie.After-pixels-whole → tie.Start
 entry c = c.before.before.before.before.before.before
 
-abbrev lists : goal.Start → Lent
+abbrev lists : tie.Start → Lent
 lists s = lent s.args.labels.now s.args.work.now s.args.owners.now s.args.ends.now s.args.corners.now s.args.areas.now
 
-size : (c : goal.After-pixels-whole) → c.pixels-whole.result ≡ 4 ^ (entry c).args.n
+size : (c : tie.After-pixels-whole) → c.pixels-whole.result ≡ 4 ^ (entry c).args.n
 size c = c.pixels-whole.ensures ∙ pixels_are_power (entry c).args.n (omega (arith, (entry c).requires))
 
-low : (c : goal.After-pixels-whole) → c.pixels-whole.result ≤ 65536
+low : (c : tie.After-pixels-whole) → c.pixels-whole.result ≤ 65536
 low c = let h : 4 ^ (entry c).args.n ≤ 4 ^ 8 = pow4_mono (entry c).requires in omega (arith, size c)
 
 pub returns-then-labels-count : goal.returns-then-labels-count

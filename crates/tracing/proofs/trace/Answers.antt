@@ -8,34 +8,35 @@ use lib.ListN.{length}
 use Rattle.tracing.specs.Accepting.{numbering_refused, outlinable, counts_small, traced}
 use Rattle.tracing.specs.Tracing.{Lent, lent, is_too_short, unfit_refused, none_too_short}
 use Rattle.tracing.proofs.trace.Goals as goal
+use Rattle.tracing.proofs.trace.Tie as tie
 
 -- ---- the places
 
-abbrev entry : goal.After-unfit-number → goal.Start
+abbrev entry : tie.After-unfit-number → tie.Start
 entry c = c.before.before.before.before.before.before.before.before.before.before.before.before.before.before.before
 
-abbrev lists : goal.Start → Lent
+abbrev lists : tie.Start → Lent
 lists s = lent s.args.labels.now s.args.work.now s.args.owners.now s.args.ends.now s.args.corners.now s.args.areas.now
 
-abbrev fitting : goal.After-number-numbered → goal.Else-number-ne0
+abbrev fitting : tie.After-number-numbered → tie.Else-number-ne0
 fitting c = c.before.before.before
 
 -- The lent lists as they were at entry.
-abbrev lent_at : goal.Else-number-ne0 → Lent
+abbrev lent_at : tie.Else-number-ne0 → Lent
 lent_at c = lists (entry c.before)
 
-abbrev numbered : goal.After-struct_known-1 → goal.After-number-numbered
+abbrev numbered : tie.After-struct_known-1 → tie.After-number-numbered
 numbered c = c.before.before.before.before.before
 
-abbrev accepted : goal.??After-outline-arg6 → goal.Else-numbered-ne0
+abbrev accepted : tie.??After-outline-arg6 → tie.Else-numbered-ne0
 accepted c = c.before.before.before.before.before.before
 
-abbrev outlined : goal.After-struct_known-2-1 → goal.After-outline-counts
+abbrev outlined : tie.After-struct_known-2-1 → tie.After-outline-counts
 outlined c = c.before.before.before.before.before.before.before.before.before.before
 
 -- ---- the needs
 
-long_enough : (c : goal.Else-number-ne0) → is_too_short (entry c.before).args.n (length (entry c.before).args.codes.now) (lent_at c) ≡ false
+long_enough : (c : tie.Else-number-ne0) → is_too_short (entry c.before).args.n (length (entry c.before).args.codes.now) (lent_at c) ≡ false
 long_enough c =
     let s = entry c.before in
     none_too_short s.args.n s.args.codes.now s.args.levels.now s.args.colours.now (lists s) c.before.unfit-number.ensures c.if-number-ne0.false
@@ -59,7 +60,7 @@ outline-counts-requires c =
     let l = fitting d in
     outlinable (lent_at l) (long_enough l) d.number-numbered.ensures (accepted c).if-numbered-ne0.false
 
-counts-low : (c : goal.After-struct_known-2-1) → ((outlined c).outline-counts.result.cycles ≤ 65536) × ((outlined c).outline-counts.result.corners ≤ 262144)
+counts-low : (c : tie.After-struct_known-2-1) → ((outlined c).outline-counts.result.cycles ≤ 65536) × ((outlined c).outline-counts.result.corners ≤ 262144)
 counts-low c =
     let o = outlined c in
     let a = accepted o.before in

@@ -2,13 +2,14 @@
 use mathlib.Core.Path.{sym, ◌∙◌}
 use Rattle.tracing.specs.Tracing.{Lent, lent, large, fit, fault_first, then_eight}
 use Rattle.tracing.proofs.unfit.Goals as goal
+use Rattle.tracing.proofs.unfit.Tie as tie
 
 -- ---- the places
 
-abbrev entry : goal.After-shared_slice_known-8-1 → goal.Start
+abbrev entry : tie.After-shared_slice_known-8-1 → tie.Start
 entry c = c.before.before.before.before.before.before.before.before
 
-abbrev lists : goal.Start → Lent
+abbrev lists : tie.Start → Lent
 lists s = lent s.args.labels.now s.args.work.now s.args.owners.now s.args.ends.now s.args.corners.now s.args.areas.now
 
 pub returns-then-n-gt8 : goal.returns-then-n-gt8

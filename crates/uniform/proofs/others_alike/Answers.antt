@@ -1,5 +1,4 @@
 -- Each square is asked in turn; the first that differs ends the question.
-use borrow.Author.Tests.{not-true, not-false}
 use mathlib.Core.Path.{sym, ◌∙◌}
 use native.Mathlib.Omega.{arith}
 use Rattle.sequences.specs.Cases.{and_stop, and_go_on}
@@ -14,7 +13,7 @@ square_alike-requires c = (c.before.requires.narrow, c.before.requires.east)
 
 pub returns-then-not-square_alike : goal.returns-then-not-square_alike
 unfolding beside_alike
-returns-then-not-square_alike c = sym (and_stop _ _ (sym c.before.square_alike.ensures ∙ not-true _ c.if-not-square_alike.true))
+returns-then-not-square_alike c = sym (and_stop _ _ (sym c.before.square_alike.ensures ∙ c.if-not-square_alike.true))
 
 pub overflow_mul-s : goal.overflow_mul-s
 overflow_mul-s c = omega (arith, c.before.before.before.requires)
@@ -29,8 +28,8 @@ pub returns-then-not-square_alike-2 : goal.returns-then-not-square_alike-2
 unfolding beside_alike
 returns-then-not-square_alike-2 c =
     let east = c.before.before in
-    sym (and_go_on _ _ (sym east.before.square_alike.ensures ∙ not-false _ east.if-not-square_alike.false)
-    ∙ and_stop _ _ (sym c.before.square_alike-2.ensures ∙ not-true _ c.if-not-square_alike-2.true))
+    sym (and_go_on _ _ (sym east.before.square_alike.ensures ∙ east.if-not-square_alike.false)
+    ∙ and_stop _ _ (sym c.before.square_alike-2.ensures ∙ c.if-not-square_alike-2.true))
 
 pub overflow_mul-s-2 : goal.overflow_mul-s-2
 overflow_mul-s-2 c = omega (arith, c.before.before.before.before.before.requires)
@@ -50,5 +49,5 @@ returns c =
     let south = c.before in
     let east = south.before.before in
     c.square_alike-3.ensures
-    ∙ sym (and_go_on _ _ (sym east.before.square_alike.ensures ∙ not-false _ east.if-not-square_alike.false)
-    ∙ and_go_on _ _ (sym south.before.square_alike-2.ensures ∙ not-false _ south.if-not-square_alike-2.false))
+    ∙ sym (and_go_on _ _ (sym east.before.square_alike.ensures ∙ east.if-not-square_alike.false)
+    ∙ and_go_on _ _ (sym south.before.square_alike-2.ensures ∙ south.if-not-square_alike-2.false))

@@ -1,4 +1,3 @@
-use borrow.Author.Tests.{not-true, not-false}
 use mathlib.Core.Path.{sym, ◌∙◌}
 use Prim.Native.Nat.{◌-◌}
 use native.Mathlib.Omega.{arith}
@@ -14,7 +13,7 @@ run_alike-requires c = row_fits c.before.loop-y.invariant c.loop-y-test.true
 pub returns-then-not-run_alike : goal.returns-then-not-run_alike
 returns-then-not-run_alike c =
     let turn = c.before.before in
-    rows_stop turn.before.loop-y.invariant turn.loop-y-test.true (sym c.before.run_alike.ensures ∙ not-true _ c.if-not-run_alike.true)
+    rows_stop turn.before.loop-y.invariant turn.loop-y-test.true (sym c.before.run_alike.ensures ∙ c.if-not-run_alike.true)
 
 pub overflow_add-from : goal.overflow_add-from
 overflow_add-from c =
@@ -25,7 +24,7 @@ overflow_add-from c =
 pub loop-y-preserved : goal.loop-y-preserved
 loop-y-preserved c =
     let turn = c.before.before in
-    rows_more turn.before.loop-y.invariant turn.loop-y-test.true (sym c.before.run_alike.ensures ∙ not-false _ c.if-not-run_alike.false)
+    rows_more turn.before.loop-y.invariant turn.loop-y-test.true (sym c.before.run_alike.ensures ∙ c.if-not-run_alike.false)
 
 pub returns : goal.returns
 returns c = rows_all c.before.loop-y.invariant c.loop-y-test.false

@@ -2,12 +2,13 @@
 use native.Mathlib.Omega.{arith}
 use Rattle.unions.specs.Joining.{under_a, under_b, one_root, a_inside, b_inside}
 use Rattle.unionfind.proofs.join.Goals as goal
+use Rattle.unionfind.proofs.join.Tie as tie
 
 -- Both roots are found: the function's entry, and the first root.
-abbrev entry : goal.After-find-rb → goal.Start
+abbrev entry : tie.After-find-rb → tie.Start
 entry z = z.before.before.before.before.before.before.before
 
-abbrev first : goal.After-find-rb → goal.After-find-ra
+abbrev first : tie.After-find-rb → tie.After-find-ra
 first z = z.before.before.before.before
 
 pub bounds-parents-rb : goal.bounds-parents-rb
@@ -23,7 +24,7 @@ returns-then-ra-rb c =
     under_a f z.find-rb.ensures c.if-ra-rb.true (b_inside f z.find-rb.ensures (entry z).requires.1)
 
 pub shape_of-parents-then-ra-rb : goal.shape_of-parents-then-ra-rb
-shape_of-parents-then-ra-rb c = (returns c).long
+shape_of-parents-then-ra-rb c = (returns-then-ra-rb c).long
 
 pub bounds-parents-ra : goal.bounds-parents-ra
 bounds-parents-ra c =
@@ -38,7 +39,7 @@ returns-then-rb-ra c =
     under_b f z.find-rb.ensures c.if-rb-ra.true (a_inside f z.find-rb.ensures (entry z).requires.0)
 
 pub shape_of-parents-then-rb-ra : goal.shape_of-parents-then-rb-ra
-shape_of-parents-then-rb-ra c = (returns-2 c).long
+shape_of-parents-then-rb-ra c = (returns-then-rb-ra c).long
 
 pub returns-else-rb-ra : goal.returns-else-rb-ra
 returns-else-rb-ra c =

@@ -2,7 +2,6 @@ use mathlib.Core.Path.{refl}
 use Prim.Native.Nat.{◌-◌}
 use native.Mathlib.Omega.{arith}
 use Rattle.west_sides.specs.Rows.{rows_begin, row_fits, fewer_entries, row-lent, no_more_rows, one_row_more, rows_end}
-use borrow.Author.Tests.{not-true, not-false}
 use Rattle.west_sides.proofs.fill_rows.Goals as goal
 
 pub loop-from-init : goal.loop-from-init
@@ -21,16 +20,16 @@ pub returns-then-not-fill_row : goal.returns-then-not-fill_row
 returns-then-not-fill_row c =
     let t = c.before.before.before in
     let l = t.before.before.before in
-    no_more_rows l.before.before.requires l.loop.invariant t.before.before.loop-from-test.true refl t.fill_row.ensures (not-true _ c.if-not-fill_row.true)
+    no_more_rows l.before.before.requires l.loop.invariant t.before.before.loop-from-test.true refl t.fill_row.ensures c.if-not-fill_row.true
 
 pub shape_of-map-then-not-fill_row : goal.shape_of-map-then-not-fill_row
-shape_of-map-then-not-fill_row c = (returns c).long
+shape_of-map-then-not-fill_row c = (returns-then-not-fill_row c).long
 
 pub loop-from-preserved : goal.loop-from-preserved
 loop-from-preserved c =
     let t = c.before.before.before in
     let l = t.before.before.before in
-    one_row_more l.before.before.requires l.loop.invariant t.before.before.loop-from-test.true refl t.fill_row.ensures (not-false _ c.if-not-fill_row.false)
+    one_row_more l.before.before.requires l.loop.invariant t.before.before.loop-from-test.true refl t.fill_row.ensures c.if-not-fill_row.false
 
 pub loop-from-smaller : goal.loop-from-smaller
 loop-from-smaller c =
@@ -41,4 +40,4 @@ pub returns : goal.returns
 returns c = rows_end c.before.before.before.requires c.before.loop-from.invariant (omega (arith, c.loop-from-test.false))
 
 pub shape_of-map : goal.shape_of-map
-shape_of-map c = (returns-2 c).long
+shape_of-map c = (returns c).long

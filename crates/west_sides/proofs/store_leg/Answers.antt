@@ -15,7 +15,7 @@ unfolding x_of y_of
 returns-then-side-x c =
     let n = c.before.if-from-to.false in
     ⊎_elim
-    (λ e. leg_east_of_image _ _ _ _ (omega (arith, n)) _ _ _ e.true)
+    (λ e. leg_east_of_image _ _ _ _ (omega (arith, n)) _ _ _ e.taken)
     (⊎_elim
     (λ e. leg_south_of_image _ _ _ _ (omega (arith, n)) _ _ _ (ltb-true _ _ e.1.true))
     (λ e. leg_too_long _ _ _ _ (omega (arith, n)) _ _ _ (ltb-true _ _ e.2.true)))

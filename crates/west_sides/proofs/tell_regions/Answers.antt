@@ -2,9 +2,10 @@
 use native.Mathlib.Omega.{arith}
 use Rattle.west_sides.specs.Telling.{whole_is, front_tellable, front_told}
 use Rattle.west_sides.proofs.tell_regions.Goals as goal
+use Rattle.west_sides.proofs.tell_regions.Tie as tie
 
 -- The function's entry, from where the number of pixels is known.
-abbrev entry : goal.After-pixels-whole → goal.Start
+abbrev entry : tie.After-pixels-whole → tie.Start
 entry c = c.before.before.before.before.before
 
 pub slice_bounds-tell-end : goal.slice_bounds-tell-end

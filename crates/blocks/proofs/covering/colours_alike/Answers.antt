@@ -4,15 +4,16 @@ use native.Mathlib.Omega.{arith}
 use lib.ListN.{get_or}
 use Rattle.blocks.specs.Siblings.{Digits, four_digits_alike}
 use Rattle.blocks.proofs.covering.colours_alike.Goals as goal
+use Rattle.blocks.proofs.covering.colours_alike.Tie as tie
 
-digits : (c : goal.After-shared_slice_known-4-1) → Digits 65536 c.before.before.before.before.args.colours.now c.before.before.before.before.args.i
+digits : (c : tie.After-shared_slice_known-4-1) → Digits 65536 c.before.before.before.before.args.colours.now c.before.before.before.before.args.i
 digits c =
     let i = c.before.before.before.before.args.i in
     let entry = c.shared_slice_known-4-1.given in
     record { first = omega (arith, entry i); second = omega (arith, entry (i + 1)); third = omega (arith, entry (i + 2)); fourth = omega (arith, entry (i + 3)) }
 
 pub overflow_cast-first : goal.overflow_cast-first
-overflow_cast-first c = omega (arith, c.shared_slice_known-1.given c.before.args.i)
+overflow_cast-first c = omega (arith, c.shared-slice-known.given c.before.args.i)
 
 pub overflow_cast-second : goal.overflow_cast-second
 overflow_cast-second c = omega (arith, c.shared_slice_known-2-1.given (c.before.before.args.i + 1))

@@ -3,13 +3,15 @@ use mathlib.Core.Path.{◌∙◌}
 use Prim.Native.Nat.{◌-◌}
 use native.Mathlib.Omega.{arith}
 use Rattle.blocks.specs.Covering.{passed_none, passed_fault, passed_room, passed_more, passed_short, passed_all}
+use Rattle.blocks.proofs.covering.cover.Invariants.{invariant-loop-i, decreases-loop-i}
 use Rattle.blocks.proofs.covering.cover.Goals as goal
+use Rattle.blocks.proofs.covering.cover.Tie as tie
 
 -- Where the call began, and where the turn of the loop did.
-abbrev entry : goal.In-loop-i → goal.Start
+abbrev entry : tie.In-loop-i invariant-loop-i decreases-loop-i → tie.Start invariant-loop-i decreases-loop-i
 entry c = c.before.before.before.before.before
 
-abbrev turn : goal.After-block_fault-found → goal.In-loop-i
+abbrev turn : tie.After-block_fault-found invariant-loop-i decreases-loop-i → tie.In-loop-i invariant-loop-i decreases-loop-i
 turn c = c.before.before.before
 
 pub loop-i-init : goal.loop-i-init
@@ -28,7 +30,7 @@ pub returns-then-found-ne0 : goal.returns-then-found-ne0
 returns-then-found-ne0 c =
     let fault = c.before in
     let now = turn fault in
-    passed_fault (entry now).requires.1 now.before.loop-i.invariant now.loop-test.true fault.block_fault-found.ensures c.if-found-ne0.true
+    passed_fault (entry now).pre.1 now.before.loop-i.invariant now.loop-i-test.true fault.block_fault-found.ensures c.if-found-ne0.true
 
 pub overflow_add-sum : goal.overflow_add-sum
 overflow_add-sum c =
@@ -36,7 +38,7 @@ overflow_add-sum c =
     let now = turn fault in
     omega (
       arith,
-      passed_room (entry now).requires.1 now.before.loop-i.invariant (entry now).requires.0 now.loop-test.true fault.block_fault-found.ensures
+      passed_room (entry now).pre.1 now.before.loop-i.invariant (entry now).pre.0 now.loop-i-test.true fault.block_fault-found.ensures
           c.before.if-found-ne0.false c.pixels-sum.ensures,
     )
 
@@ -44,7 +46,7 @@ pub loop-i-preserved : goal.loop-i-preserved
 loop-i-preserved c =
     let fault = c.before.before in
     let now = turn fault in
-    passed_more (entry now).requires.1 now.before.loop-i.invariant (entry now).requires.0 now.loop-test.true fault.block_fault-found.ensures
+    passed_more (entry now).pre.1 now.before.loop-i.invariant (entry now).pre.0 now.loop-i-test.true fault.block_fault-found.ensures
     c.before.if-found-ne0.false c.pixels-sum.ensures
 
 pub returns-then-sum-whole : goal.returns-then-sum-whole

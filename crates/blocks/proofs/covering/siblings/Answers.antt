@@ -1,10 +1,12 @@
 use Rattle.blocks.specs.Siblings.{Searched, searched_none, searched_found, searched_more, searched_all}
 use Prim.Native.Nat.{◌+◌, ◌-◌}
 use native.Mathlib.Omega.{arith}
+use Rattle.blocks.proofs.covering.siblings.Invariants.{invariant-loop-i, decreases-loop-i}
 use Rattle.blocks.proofs.covering.siblings.Goals as goal
+use Rattle.blocks.proofs.covering.siblings.Tie as tie
 
 -- Where the call began.
-abbrev entry : goal.In-loop-i → goal.Start
+abbrev entry : tie.In-loop-i invariant-loop-i decreases-loop-i → tie.Start invariant-loop-i decreases-loop-i
 entry c = c.before.before.before.before.before
 
 pub loop-i-init : goal.loop-i-init
@@ -18,7 +20,7 @@ returns-then-clear-eq0 c =
     let turn = c.before.before in
     searched_found (entry turn).requires.long turn.before.loop-i.invariant turn.loop-i-test.true c.before.stride-clear.ensures c.if-clear-eq0.true
 
-more : (c : goal.Else-clear-eq0) → let turn = c.before.before in let a = (entry turn).args in
+more : (c : tie.Else-clear-eq0 invariant-loop-i decreases-loop-i) → let turn = c.before.before in let a = (entry turn).args in
     Searched a.n a.codes.now a.levels.now a.colours.now (turn.before.loop-i.i + c.before.stride-clear.result)
 more c =
     let turn = c.before.before in

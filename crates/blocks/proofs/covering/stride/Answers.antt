@@ -1,5 +1,4 @@
 -- The tests are the parts of cause 7; a code's alignment tells whether it begins a block one level up.
-use borrow.Author.Tests.{not-true, not-false}
 use Rattle.blocks.specs.Siblings.{not_below_n, not_first_child, not_one_level, one_colour_lem, more-colours}
 use native.Mathlib.Omega.{arith}
 use mathlib.Core.Path.{sym, ◌∙◌}
@@ -24,7 +23,7 @@ returns-then-alignment-level c =
 pub returns-then-not-levels_alike : goal.returns-then-not-levels_alike
 returns-then-not-levels_alike c =
     let a = c.before.before.before.before.before.before.before.before.before.before.args in
-    not_one_level a.n a.codes.now a.levels.now a.colours.now a.i (sym c.before.levels_alike.ensures ∙ not-true _ c.if-not-levels_alike.true)
+    not_one_level a.n a.codes.now a.levels.now a.colours.now a.i (sym c.before.levels_alike.ensures ∙ c.if-not-levels_alike.true)
 
 pub returns-then-colours_alike : goal.returns-then-colours_alike
 returns-then-colours_alike c =
@@ -34,7 +33,7 @@ returns-then-colours_alike c =
     let a = low.before.before.before.before.before.args in
     one_colour_lem a.n a.codes.now a.levels.now a.colours.now a.i
     low.if-n-level.false (omega (arith, aligned.before.alignment.ensures, aligned.if-alignment-level.false))
-    (sym one-level.before.levels_alike.ensures ∙ not-false _ one-level.if-not-levels_alike.false) (sym c.before.colours_alike.ensures ∙ c.if-colours_alike.true)
+    (sym one-level.before.levels_alike.ensures ∙ one-level.if-not-levels_alike.false) (sym c.before.colours_alike.ensures ∙ c.if-colours_alike.true)
 
 pub returns : goal.returns
 returns c =
@@ -44,4 +43,4 @@ returns c =
     let a = low.before.before.before.before.before.args in
     more-colours a.n a.codes.now a.levels.now a.colours.now a.i
     low.if-n-level.false (omega (arith, aligned.before.alignment.ensures, aligned.if-alignment-level.false))
-    (sym one-level.before.levels_alike.ensures ∙ not-false _ one-level.if-not-levels_alike.false) (sym c.before.colours_alike.ensures ∙ c.if-colours_alike.false)
+    (sym one-level.before.levels_alike.ensures ∙ one-level.if-not-levels_alike.false) (sym c.before.colours_alike.ensures ∙ c.if-colours_alike.false)

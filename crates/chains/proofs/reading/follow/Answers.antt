@@ -1,6 +1,5 @@
 use mathlib.Core.Bool.{true}
 use lib.Dec.{eqb}
-use borrow.Author.Tests.{not-true, not-false}
 use Rattle.chains.specs.ChainForm.{digit_of, allowed}
 use Rattle.chains.specs.Bytes.{Allowed, allowed_says, digit-below}
 use Rattle.chains.specs.Following.{follow_begin, follow_on, follow_off, follow_open, follow_end, one_at_most}
@@ -9,22 +8,24 @@ use mathlib.Core.Path.{◌≡◌, sym, ◌∙◌}
 use Prim.Native.Nat.{ℕ, ◌-◌}
 use native.Mathlib.Omega.{arith}
 use lib.ListN.{get_or}
+use Rattle.chains.proofs.reading.follow.Invariants.{invariant-loop-i, decreases-loop-i}
 use Rattle.chains.proofs.reading.follow.Goals as goal
+use Rattle.chains.proofs.reading.follow.Tie as tie
 
 -- The byte at i, the point and the digit before it; the byte may stand there.
-abbrev byte : goal.Else-not-may_follow → ℕ
+abbrev byte : tie.Else-not-may_follow invariant-loop-i decreases-loop-i → ℕ
 byte c = get_or c.before.before.before.before.before.before.args.bytes.now c.before.before.before.before.loop-i.i 0
 
-abbrev point : goal.Else-not-may_follow → ℕ
+abbrev point : tie.Else-not-may_follow invariant-loop-i decreases-loop-i → ℕ
 point c = c.before.before.before.before.loop-i.p
 
-abbrev before : goal.Else-not-may_follow → ℕ
+abbrev before : tie.Else-not-may_follow invariant-loop-i decreases-loop-i → ℕ
 before c = c.before.before.before.before.loop-i.d
 
-fine : (c : goal.Else-not-may_follow) → allowed (before c) (point c) (byte c) ≡ true
-fine c = sym c.before.may_follow.ensures ∙ not-false c.before.may_follow.result c.if-not-may_follow.false
+fine : (c : tie.Else-not-may_follow invariant-loop-i decreases-loop-i) → allowed (before c) (point c) (byte c) ≡ true
+fine c = sym c.before.may_follow.ensures ∙ c.if-not-may_follow.false
 
-says : (c : goal.Else-not-may_follow) → Allowed (before c) (point c) (byte c)
+says : (c : tie.Else-not-may_follow invariant-loop-i decreases-loop-i) → Allowed (before c) (point c) (byte c)
 says c = allowed_says (before c) (point c) (byte c) (fine c)
 
 pub loop-i-init : goal.loop-i-init
@@ -35,7 +36,7 @@ may_follow-requires c = c.before.before.loop-i.invariant.reached.known
 
 pub returns-then-not-may_follow : goal.returns-then-not-may_follow
 returns-then-not-may_follow c =
-    let off = sym c.before.may_follow.ensures ∙ not-true c.before.may_follow.result c.if-not-may_follow.true in
+    let off = sym c.before.may_follow.ensures ∙ c.if-not-may_follow.true in
     no_chain (follow_off c.before.before.before.before.loop-i.invariant c.before.before.before.loop-i-test.true off)
 
 pub overflow_sub-b : goal.overflow_sub-b

@@ -7,15 +7,15 @@ use Rattle.chains.proofs.reading.is_free.Goals as goal
 
 pub returns-in-0 : goal.returns-in-0
 unfolding free x_of y_of
-returns-in-0 c = sym (ap (λ d. free d c.before.args.p) c.in-0.keys1)
+returns-in-0 c = sym (ap (λ d. free d c.before.args.p) c.in-0.is)
 
 pub returns-in-1 : goal.returns-in-1
 unfolding free x_of y_of
-returns-in-1 c = sym (ap (λ d. free d c.before.args.p) c.in-0.keys2)
+returns-in-1 c = sym (ap (λ d. free d c.before.args.p) c.in-1.is)
 
 pub returns-in-2 : goal.returns-in-2
 unfolding free x_of y_of
-returns-in-2 c = sym (ap (λ d. free d c.before.args.p) c.in-0.keys3)
+returns-in-2 c = sym (ap (λ d. free d c.before.args.p) c.in-2.is)
 
 pub returns-in_default : goal.returns-in_default
 unfolding free x_of y_of

@@ -8,6 +8,7 @@ use Rattle.lattice.specs.Directions.{right_of, opposite}
 use Rattle.chains.specs.ChainForm.{allowed, is_direction, digit_of}
 use Rattle.chains.specs.Bytes.{two_right}
 use Rattle.chains.proofs.reading.may_follow.Goals as goal
+use Rattle.chains.proofs.reading.may_follow.Tie as tie
 
 pub returns-then-b-lt48 : goal.returns-then-b-lt48
 unfolding allowed is_direction
@@ -18,19 +19,19 @@ unfolding allowed is_direction
 returns-then-b-gt51 c = simp (le-leb 48 c.before.before.args.b c.before.if-b-lt48.false, lt-leb c.before.before.args.b 51 (omega (arith, c.if-b-gt51.true)))
 
 -- The byte past the tests that it is one of 48 to 51, and the digit before it; two right turns from that are the opposite.
-abbrev asked : goal.After-right-back → goal.Else-b-gt51
+abbrev asked : tie.After-right-back → tie.Else-b-gt51
 asked c = c.before.before
 
-abbrev digit : goal.After-right-back → ℕ
+abbrev digit : tie.After-right-back → ℕ
 digit c = (asked c).before.before.args.d
 
-abbrev byte : goal.After-right-back → ℕ
+abbrev byte : tie.After-right-back → ℕ
 byte c = (asked c).before.before.args.b
 
-back : (c : goal.After-right-back) → c.right-back.result ≡ opposite (digit c)
+back : (c : tie.After-right-back) → c.right-back.result ≡ opposite (digit c)
 back c = c.right-back.ensures ∙ ap right_of c.before.right.ensures ∙ two_right (digit c) (asked c).before.before.requires
 
-within : (c : goal.After-right-back) → is_direction (byte c) ≡ true
+within : (c : tie.After-right-back) → is_direction (byte c) ≡ true
 unfolding is_direction
 within c = simp (le-leb 48 (byte c) (asked c).before.if-b-lt48.false, le-leb (byte c) 51 (asked c).if-b-gt51.false)
 

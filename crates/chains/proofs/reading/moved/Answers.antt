@@ -12,11 +12,11 @@ overflow_add-result c = omega (arith, inside_says c.before.args.p c.before.requi
 
 pub overflow_sub-result : goal.overflow_sub-result
 unfolding x_of y_of
-overflow_sub-result c = omega (arith, (free_says c.before.args.d c.before.args.p c.before.requires.0 c.before.requires.2).north c.in-0.keys2)
+overflow_sub-result c = omega (arith, (free_says c.before.args.d c.before.args.p c.before.requires.0 c.before.requires.2).north c.in-1.is)
 
 pub overflow_sub-result-in-2 : goal.overflow_sub-result-in-2
 unfolding x_of y_of
-overflow_sub-result-in-2 c = omega (arith, (free_says c.before.args.d c.before.args.p c.before.requires.0 c.before.requires.2).west c.in-0.keys3)
+overflow_sub-result-in-2 c = omega (arith, (free_says c.before.args.d c.before.args.p c.before.requires.0 c.before.requires.2).west c.in-2.is)
 
 pub overflow_add-result-in_default : goal.overflow_add-result-in_default
 unfolding x_of y_of
@@ -24,15 +24,15 @@ overflow_add-result-in_default c = omega (arith, inside_says c.before.args.p c.b
 
 pub returns-in-0 : goal.returns-in-0
 unfolding move
-returns-in-0 c = sym (ap (λ d. move d c.before.args.p) c.in-0.keys1)
+returns-in-0 c = sym (ap (λ d. move d c.before.args.p) c.in-0.is)
 
 pub returns-in-1 : goal.returns-in-1
 unfolding move
-returns-in-1 c = sym (ap (λ d. move d c.before.args.p) c.in-0.keys2)
+returns-in-1 c = sym (ap (λ d. move d c.before.args.p) c.in-1.is)
 
 pub returns-in-2 : goal.returns-in-2
 unfolding move
-returns-in-2 c = sym (ap (λ d. move d c.before.args.p) c.in-0.keys3)
+returns-in-2 c = sym (ap (λ d. move d c.before.args.p) c.in-2.is)
 
 pub returns-in_default : goal.returns-in_default
 unfolding move

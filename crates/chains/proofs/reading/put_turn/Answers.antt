@@ -5,9 +5,10 @@ use native.Mathlib.Omega.{arith}
 use lib.ListN.{length}
 use borrow.Author.Tests.{eq-eqb, ne_eqb}
 use Rattle.chains.proofs.reading.put_turn.Goals as goal
+use Rattle.chains.proofs.reading.put_turn.Tie as tie
 
 -- Room where the digit changes.
-room : (c : goal.Else-e-d) → c.before.args.at < length c.before.args.corners.now
+room : (c : tie.Else-e-d) → c.before.args.at < length c.before.args.corners.now
 room c = c.before.requires (λ same. c.if-e-d.false (omega (arith, same)))
 
 pub returns-then-e-d : goal.returns-then-e-d

@@ -5,16 +5,18 @@ use mathlib.Core.List.{List}
 use Prim.Native.Nat.{ℕ, ◌-◌}
 use native.Mathlib.Omega.{arith}
 use lib.ListN.{get_or}
+use Rattle.chains.proofs.reading.write_corners.Invariants.{invariant-loop-i, decreases-loop-i}
 use Rattle.chains.proofs.reading.write_corners.Goals as goal
+use Rattle.chains.proofs.reading.write_corners.Tie as tie
 
 -- Where the function begins, and the byte at i, which may stand there.
-abbrev begin : goal.In-loop-i → goal.Start
+abbrev begin : tie.In-loop-i invariant-loop-i decreases-loop-i → tie.Start invariant-loop-i decreases-loop-i
 begin c = c.before.before.before.before
 
-abbrev bytes : goal.In-loop-i → List ℕ
+abbrev bytes : tie.In-loop-i invariant-loop-i decreases-loop-i → List ℕ
 bytes c = (begin c).args.bytes.now
 
-says : (c : goal.In-loop-i) → Allowed c.before.loop-i.d c.before.loop-i.p (get_or (bytes c) c.before.loop-i.i 0)
+says : (c : tie.In-loop-i invariant-loop-i decreases-loop-i) → Allowed c.before.loop-i.d c.before.loop-i.p (get_or (bytes c) c.before.loop-i.i 0)
 says c =
     let l = c.before.loop-i in
     allowed_says l.d l.p (get_or (bytes c) l.i 0) (draws l.invariant (begin c).requires.0 c.loop-i-test.true)

@@ -2,20 +2,21 @@ use mathlib.Core.Path.{◌≡◌, sym, ◌∙◌}
 use mathlib.Core.Bool.{true}
 use Prim.Native.Nat.{◌-◌, ◌<◌}
 use native.Mathlib.Omega.{arith}
-use borrow.Author.Tests.{not-true, not-false}
 use lib.ListN.{get_or}
 use Rattle.headers.specs.Number.{is_digit}
 use Rattle.headers.specs.NumberLaws.{digit-range, five_digits}
 use Rattle.headers.proofs.Digits.{begin, again, sixth, finish, finish-end}
+use Rattle.headers.proofs.number.parse.Invariants.{invariant-loop-at, decreases-loop-at}
 use Rattle.headers.proofs.number.parse.Goals as goal
+use Rattle.headers.proofs.number.parse.Tie as tie
 
 -- Past the first test the byte is a digit, and what was read before it is a number of at most 5 digits.
 digit :
-    (c : goal.Else-not-digit)
+    (c : tie.Else-not-digit invariant-loop-at decreases-loop-at)
     → is_digit (get_or c.before.before.before.before.before.before.args.bytes.now c.before.before.before.before.loop-at.at 0) ≡ true
-digit c = sym c.before.is_digit-digit.ensures ∙ not-false _ c.if-not-digit.false
+digit c = sym c.before.is_digit-digit.ensures ∙ c.if-not-digit.false
 
-below : (c : goal.Else-not-digit) → c.before.before.before.before.loop-at.value < 100000
+below : (c : tie.Else-not-digit invariant-loop-at decreases-loop-at) → c.before.before.before.before.loop-at.value < 100000
 below c = let l = c.before.before.before.before.loop-at in five_digits _ _ l.invariant.few l.invariant.small
 
 pub loop-at-init : goal.loop-at-init
@@ -25,7 +26,7 @@ pub returns-then-not-digit : goal.returns-then-not-digit
 returns-then-not-digit c =
     rw c.stop.ensures
     (finish c.before.before.before.before.before.loop-at.invariant c.before.before.before.before.loop-at-test.true
-    (sym c.before.before.is_digit-digit.ensures ∙ not-true _ c.before.if-not-digit.true))
+    (sym c.before.before.is_digit-digit.ensures ∙ c.before.if-not-digit.true))
 
 pub returns-then-count-eq5 : goal.returns-then-count-eq5
 returns-then-count-eq5 c =

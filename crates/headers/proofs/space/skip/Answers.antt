@@ -2,7 +2,6 @@ use mathlib.Core.Path.{refl, sym, ◌∙◌}
 use mathlib.Core.Bool.{false}
 use Prim.Native.Nat.{◌-◌}
 use native.Mathlib.Omega.{arith}
-use borrow.Author.Tests.{not-true, not-false}
 use Rattle.headers.proofs.Places.{skip-end, remark-end, skip-yes, skip-no}
 use Rattle.headers.proofs.space.skip.Goals as goal
 
@@ -12,13 +11,13 @@ loop-at-init c = (c.before.requires, refl)
 pub returns-then-not-white : goal.returns-then-not-white
 returns-then-not-white c =
     let l = c.before.before.before.before.loop-at in
-    let e = sym c.before.is_white-white.ensures ∙ not-true _ c.if-not-white.true in
+    let e = sym c.before.is_white-white.ensures ∙ c.if-not-white.true in
     record { says = sym (skip-no _ _ c.before.before.before.loop-at-test.true _ e) ∙ l.invariant.1; inside = l.invariant.0 }
 
 pub loop-at-preserved : goal.loop-at-preserved
 loop-at-preserved c =
     let l = c.before.before.before.before.before.loop-at in
-    let e = sym c.before.before.is_white-white.ensures ∙ not-false _ c.before.if-not-white.false in
+    let e = sym c.before.before.is_white-white.ensures ∙ c.before.if-not-white.false in
     (omega arith, rw c.in_remark-remark.ensures (sym (skip-yes _ _ c.before.before.before.before.loop-at-test.true _ e) ∙ l.invariant.1))
 
 pub returns-then-remark : goal.returns-then-remark

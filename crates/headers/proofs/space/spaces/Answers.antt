@@ -1,7 +1,6 @@
 -- The first byte must be white; the rest is skipped with it.
 use mathlib.Core.Path.{sym, ◌∙◌}
 use native.Mathlib.Omega.{arith}
-use borrow.Author.Tests.{not-true, not-false}
 use Rattle.headers.proofs.Places.{spaces-end, spaces-yes, spaces-no}
 use Rattle.headers.proofs.space.spaces.Goals as goal
 
@@ -10,7 +9,7 @@ returns-then-bytes-at c = record { says = sym (spaces-end _ _ c.if-bytes-at.true
 
 pub returns-then-not-white : goal.returns-then-not-white
 returns-then-not-white c =
-    let other = sym c.before.is_white-white.ensures ∙ not-true _ c.if-not-white.true in
+    let other = sym c.before.is_white-white.ensures ∙ c.if-not-white.true in
     record { says = sym (spaces-no _ _ c.before.before.before.if-bytes-at.false other); inside = omega arith }
 
 pub skip-requires : goal.skip-requires
@@ -18,6 +17,6 @@ skip-requires c = omega (arith, c.before.before.before.if-bytes-at.false)
 
 pub returns : goal.returns
 returns c =
-    let white = sym c.before.before.is_white-white.ensures ∙ not-false _ c.before.if-not-white.false in
+    let white = sym c.before.before.is_white-white.ensures ∙ c.before.if-not-white.false in
     let p = c.skip.ensures in
     record { says = p.says ∙ sym (spaces-yes _ _ c.before.before.before.before.if-bytes-at.false white); inside = p.inside }

@@ -6,44 +6,46 @@ use mathlib.Core.Path.{◌≡◌, ap}
 use Prim.Native.Nat.{◌-◌, ◌^◌, ◌<◌}
 use native.Mathlib.Omega.{arith}
 use lib.ListN.{get_or}
+use Rattle.merging.proofs.merge.merge.Invariants.{invariant-loop-c, decreases-loop-c}
 use Rattle.merging.proofs.merge.merge.Goals as goal
+use Rattle.merging.proofs.merge.merge.Tie as tie
 
 -- Where the call began, where the turn of the loop did, and where four single pixels are written.
-abbrev entry : goal.In-loop-c → goal.Start
+abbrev entry : tie.In-loop-c invariant-loop-c decreases-loop-c → tie.Start invariant-loop-c decreases-loop-c
 entry c = c.before.before.before.before.before.before.before
 
-abbrev levels-before : goal.After-store_four → goal.After-store_levels
+abbrev levels-before : tie.After-store_four invariant-loop-c decreases-loop-c → tie.After-store_levels invariant-loop-c decreases-loop-c
 levels-before c = c.before.before.before.before.before.before.before.before
 
-abbrev four-from-levels : goal.After-store_levels → goal.Then-n-gt0
+abbrev four-from-levels : tie.After-store_levels invariant-loop-c decreases-loop-c → tie.Then-n-gt0 invariant-loop-c decreases-loop-c
 four-from-levels c = c.before.before.before.before.before.before
 
-abbrev four-from-colours : goal.After-store_four → goal.Then-n-gt0
+abbrev four-from-colours : tie.After-store_four invariant-loop-c decreases-loop-c → tie.Then-n-gt0 invariant-loop-c decreases-loop-c
 four-from-colours c = four-from-levels (levels-before c)
 
-inside : (c : goal.In-loop-c) → c.before.loop-c.c < 4 ^ (entry c).args.n
+inside : (c : tie.In-loop-c invariant-loop-c decreases-loop-c) → c.before.loop-c.c < 4 ^ (entry c).args.n
 inside c = in_image (entry c).requires c.before.loop-c.invariant c.loop-c-test.true
 
-one : (c : goal.After-level_at-level) → let l = c.before.before.loop-c in let a = (entry c.before).args in
+one : (c : tie.After-level_at-level invariant-loop-c decreases-loop-c) → let l = c.before.before.loop-c in let a = (entry c.before).args in
     Turn a.n a.raster.now l.codes l.levels l.colours l.count l.c c.level_at-level.result
-one c = turn (entry c.before).requires c.before.before.loop-c.invariant c.before.loop-c-test.true c.level_at-level.ensures
+one c = turn (entry c.before).pre c.before.before.loop-c.invariant c.before.loop-c-test.true c.level_at-level.ensures
 
-placed : (c : goal.After-place-at) → c.place-at.result ≡ place (entry c.before.before).args.n c.before.before.before.loop-c.c
-placed c = code_placed (raster_of (entry c.before.before).requires) (inside c.before.before) c.place-at.ensures
+placed : (c : tie.After-place-at invariant-loop-c decreases-loop-c) → c.place-at.result ≡ place (entry c.before.before).args.n c.before.before.before.loop-c.c
+placed c = code_placed (raster_of (entry c.before.before).pre) (inside c.before.before) c.place-at.ensures
 
-four : (c : goal.Then-n-gt0) → let at = c.before.before in let l = at.before.before.before.loop-c in
+four : (c : tie.Then-n-gt0 invariant-loop-c decreases-loop-c) → let at = c.before.before in let l = at.before.before.before.loop-c in
     FourTurn (entry at.before.before).args.raster.now l.codes l.levels l.colours l.count l.c at.place-at.result at.before.before.before.before.side-w.result
 four c =
     let at = c.before.before in
     let now = at.before.before in
-    four_turn (entry now).requires now.before.loop-c.invariant now.loop-test.true at.before.level_at-level.ensures (placed at) now.before.before.side-w.ensures
+    four_turn (entry now).requires now.before.loop-c.invariant now.loop-c-test.true at.before.level_at-level.ensures (placed at) now.before.before.side-w.ensures
     c.before.if-level-code-eq0.true c.if-n-gt0.true
 
-added : (c : goal.After-pixels-c) → c.pixels-c.result ≡ 4 ^ c.before.before.before.before.level_at-level.result
+added : (c : tie.After-pixels-c invariant-loop-c decreases-loop-c) → c.pixels-c.result ≡ 4 ^ c.before.before.before.before.level_at-level.result
 added c =
     let level = c.before.before.before.before in
     let now = level.before in
-    next-pixels (entry now).requires now.before.loop-c.invariant now.loop-test.true level.level_at-level.ensures c.pixels-c.ensures
+    next-pixels (entry now).requires now.before.loop-c.invariant now.loop-c-test.true level.level_at-level.ensures c.pixels-c.ensures
 
 pub loop-c-init : goal.loop-c-init
 loop-c-init c = merging_none c.before.before.before.before.before.requires
@@ -119,7 +121,7 @@ loop-c-preserved-then-n-gt0 c =
     let four-now = four-from-colours stored in
     let at = four-now.before.before in
     let now = at.before.before in
-    merging_four (entry now).requires now.before.loop-c.invariant now.loop-test.true at.before.level_at-level.ensures (placed at) now.before.before.side-w.ensures
+    merging_four (entry now).pre now.before.loop-c.invariant now.loop-c-test.true at.before.level_at-level.ensures (placed at) now.before.before.side-w.ensures
     four-now.before.if-level-code-eq0.true four-now.if-n-gt0.true stored-codes.store_codes.ensures stored-levels.store_levels.ensures stored.store_four.ensures
 
 pub offset_bounds-codes-count : goal.offset_bounds-codes-count
@@ -135,12 +137,12 @@ pub bounds-levels-count : goal.bounds-levels-count
 bounds-levels-count c = (one c.before.before).in_levels
 
 pub offset_bounds-raster-at-in-loop-c : goal.offset_bounds-raster-at-in-loop-c
-offset_bounds-raster-at-in-loop-c c = let at = c.before in omega (arith, place_low (raster_of (entry at.before.before).requires) (inside at.before.before) (placed at))
+offset_bounds-raster-at-in-loop-c c = let at = c.before in omega (arith, place_low (raster_of (entry at.before.before).pre) (inside at.before.before) (placed at))
 
 pub bounds-raster-at-in-loop-c : goal.bounds-raster-at-in-loop-c
 bounds-raster-at-in-loop-c c =
     let at = c.before.before in
-    place_read (raster_of (entry at.before.before).requires) (inside at.before.before) (placed at)
+    place_read (raster_of (entry at.before.before).pre) (inside at.before.before) (placed at)
 
 pub bounds-colours-count : goal.bounds-colours-count
 bounds-colours-count c = (one c.before.before.before).in_colours
@@ -162,7 +164,7 @@ loop-c-preserved c =
     let at = c.before.before.before in
     let now = at.before.before in
     rw (added c)
-    (merging_more (entry now).requires now.before.loop-c.invariant now.loop-test.true at.before.level_at-level.ensures
+    (merging_more (entry now).requires now.before.loop-c.invariant now.loop-c-test.true at.before.level_at-level.ensures
     (ap (λ i. get_or (entry now).args.raster.now i 0) (placed at)))
 
 pub shape_of-codes : goal.shape_of-codes

@@ -2,10 +2,12 @@ use Rattle.squares.specs.Fours.{two_fit, two_filled}
 use Rattle.squares.specs.Filling.{rows-done_none, row_fits, rows-done-more, rows-done_all}
 use Prim.Native.Nat.{◌-◌}
 use native.Mathlib.Omega.{arith}
+use Rattle.painting.proofs.paint.fill_square.Invariants.{invariant-loop-y, decreases-loop-y}
 use Rattle.painting.proofs.paint.fill_square.Goals as goal
+use Rattle.painting.proofs.paint.fill_square.Tie as tie
 
 -- Where the call began.
-abbrev entry : goal.In-loop-y → goal.Start
+abbrev entry : tie.In-loop-y invariant-loop-y decreases-loop-y → tie.Start invariant-loop-y decreases-loop-y
 entry c = c.before.before.before.before
 
 pub store_four-requires : goal.store_four-requires

@@ -5,17 +5,19 @@ use mathlib.Core.Path.{◌≡◌}
 use Prim.Native.Nat.{◌-◌}
 use native.Mathlib.Omega.{arith}
 use lib.ListN.{get_or}
+use Rattle.painting.proofs.paint.paint.Invariants.{invariant-loop-i, decreases-loop-i}
 use Rattle.painting.proofs.paint.paint.Goals as goal
+use Rattle.painting.proofs.paint.paint.Tie as tie
 
 -- Where the call began, and where the turn of the loop did.
-abbrev entry : goal.In-loop-i → goal.Start
+abbrev entry : tie.In-loop-i invariant-loop-i decreases-loop-i → tie.Start invariant-loop-i decreases-loop-i
 entry c = c.before.before.before.before.before.before.before
 
-abbrev turn : goal.After-place-at → goal.In-loop-i
+abbrev turn : tie.After-place-at invariant-loop-i decreases-loop-i → tie.In-loop-i invariant-loop-i decreases-loop-i
 turn c = c.before.before.before
 
-placed : (c : goal.After-place-at) → c.place-at.result ≡ place (entry (turn c)).args.n (get_or (entry (turn c)).args.codes.now (turn c).before.loop-i.i 0)
-placed c = block_placed (entry (turn c)).requires (turn c).before.loop-i.invariant (turn c).loop-i-test.true c.place-at.ensures
+placed : (c : tie.After-place-at invariant-loop-i decreases-loop-i) → c.place-at.result ≡ place (entry (turn c)).args.n (get_or (entry (turn c)).args.codes.now (turn c).before.loop-i.i 0)
+placed c = block_placed (entry (turn c)).pre (turn c).before.loop-i.invariant (turn c).loop-i-test.true c.place-at.ensures
 
 pub loop-i-init : goal.loop-i-init
 loop-i-init c = painted_none c.before.before.before.before.before.requires c.side-w.ensures
@@ -30,24 +32,24 @@ pub store_four-requires : goal.store_four-requires
 store_four-requires c =
     let p = c.before.before.before.before.before.before.before.before in
     let first = c.before.before.before.before.before.if-level-codes-eq0.true in
-    four_room (entry (turn p)).requires (turn p).before.loop-i.invariant c.before.before.before.before.if-i-codes.true (omega (arith, first)) (omega (arith, first)) (placed p)
+    four_room (entry (turn p)).pre (turn p).before.loop-i.invariant c.before.before.before.before.if-i-codes.true (omega (arith, first)) (omega (arith, first)) (placed p)
 
 pub loop-i-preserved-then-i-codes : goal.loop-i-preserved-then-i-codes
 loop-i-preserved-then-i-codes c =
     let p = c.before.before.before.before.before.before.before.before.before.before.before in
     let first = c.before.before.before.before.before.before.before.before.if-level-codes-eq0.true in
-    painted_four (entry (turn p)).requires (turn p).before.loop-i.invariant c.before.before.before.before.before.before.before.if-i-codes.true (omega (arith, first)) (omega (arith, first)) (placed p)
+    painted_four (entry (turn p)).pre (turn p).before.loop-i.invariant c.before.before.before.before.before.before.before.if-i-codes.true (omega (arith, first)) (omega (arith, first)) (placed p)
     c.before.before.store_four.ensures
 
 pub fill_square-requires : goal.fill_square-requires
 fill_square-requires c =
     let p = c.before.before.before.before.before in
-    block_fits (entry (turn p)).requires (turn p).before.loop-i.invariant (turn p).loop-i-test.true (placed p) c.side.ensures
+    block_fits (entry (turn p)).pre (turn p).before.loop-i.invariant (turn p).loop-i-test.true (placed p) c.side.ensures
 
 pub loop-i-preserved : goal.loop-i-preserved
 loop-i-preserved c =
     let p = c.before.before.before.before.before.before.before.before in
-    painted_more (entry (turn p)).requires (turn p).before.loop-i.invariant (turn p).loop-i-test.true (placed p) c.before.before.before.side.ensures
+    painted_more (entry (turn p)).pre (turn p).before.loop-i.invariant (turn p).loop-i-test.true (placed p) c.before.before.before.side.ensures
     c.before.before.fill_square.ensures
 
 pub shape_of-raster : goal.shape_of-raster

@@ -5,7 +5,7 @@ use Rattle.pgm.proofs.Sampling.{room-of-each, looked-at-greatest, looked-none, l
 use Rattle.pgm.proofs.samples.any_above.Goals as goal
 
 pub returns-then-maxval-greatest : goal.returns-then-maxval-greatest
-returns-then-maxval-greatest c = looked-at-greatest _ _ _ _ (c.if-maxval-greatest.true ∙ c.before.greatest.ensures) (λ k. omega (arith, c.before.before.shared_slice_known-1.given k))
+returns-then-maxval-greatest c = looked-at-greatest _ _ _ _ (c.if-maxval-greatest.true ∙ c.before.greatest.ensures) (λ k. omega (arith, c.before.before.shared-slice-known.given k))
 
 pub loop-i-init : goal.loop-i-init
 loop-i-init c = looked-none _ _ _ _

@@ -4,6 +4,7 @@ use native.Mathlib.Omega.{arith}
 use lib.ListN.{get_or}
 use Rattle.pgm.proofs.Sampling.{room-of-one, room-of-two, sample-of-one, sample-of-two}
 use Rattle.pgm.proofs.samples.sample.Goals as goal
+use Rattle.pgm.proofs.samples.sample.Tie as tie
 
 pub overflow_mul-high : goal.overflow_mul-high
 overflow_mul-high c = omega (arith, room-of-two _ _ c.before.requires c.if-wide.true, c.before.well-formed)
@@ -12,7 +13,7 @@ pub bounds-bytes-i : goal.bounds-bytes-i
 bounds-bytes-i c = omega (arith, room-of-two _ _ c.before.before.requires c.before.if-wide.true)
 
 pub overflow_cast-high : goal.overflow_cast-high
-overflow_cast-high c = omega (arith, c.shared_slice_known-1.given (2 * c.before.before.args.i))
+overflow_cast-high c = omega (arith, c.shared-slice-known.given (2 * c.before.before.args.i))
 
 pub overflow_mul-low : goal.overflow_mul-low
 overflow_mul-low c = omega (arith, room-of-two _ _ c.before.before.requires c.before.if-wide.true, c.before.before.well-formed)
@@ -27,10 +28,10 @@ pub overflow_cast-low : goal.overflow_cast-low
 overflow_cast-low c = omega (arith, c.shared_slice_known-then-wide-1.given (2 * c.before.before.before.args.i + 1))
 
 -- Each of the two is a byte.
-high : (c : goal.After-shared_slice_known-then-wide-1) → let a = c.before.before.before.args in get_or a.bytes.now (2 * a.i) 0 < 256
+high : (c : tie.After-shared_slice_known-then-wide-1) → let a = c.before.before.before.args in get_or a.bytes.now (2 * a.i) 0 < 256
 high c = omega (arith, c.shared_slice_known-then-wide-1.given (2 * c.before.before.before.args.i))
 
-low : (c : goal.After-shared_slice_known-then-wide-1) → let a = c.before.before.before.args in get_or a.bytes.now (2 * a.i + 1) 0 < 256
+low : (c : tie.After-shared_slice_known-then-wide-1) → let a = c.before.before.before.args in get_or a.bytes.now (2 * a.i + 1) 0 < 256
 low c = omega (arith, c.shared_slice_known-then-wide-1.given (2 * c.before.before.before.args.i + 1))
 
 pub overflow_mul-result : goal.overflow_mul-result

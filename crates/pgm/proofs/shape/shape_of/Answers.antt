@@ -12,15 +12,16 @@ use Rattle.pgm.specs.Picture.{outside}
 use Rattle.pgm.specs.ShapeLaws.{width_not_height, width_no_power, maxval_outside, size_wrong, size_right}
 use Rattle.pgm.specs.declared.shape.PowerOfTwo.{PowerOfTwo}
 use Rattle.pgm.proofs.shape.shape_of.Goals as goal
+use Rattle.pgm.proofs.shape.shape_of.Tie as tie
 
 -- Past 11 width and height are equal, and a power of two.
-equal : (c : goal.In-Power) → let a = c.before.before.before.before.before.args in a.width ≡ a.height
+equal : (c : tie.In-Power) → let a = c.before.before.before.before.before.args in a.width ≡ a.height
 equal c = c.before.before.before.before.if-width-height.false
 
-power : (c : goal.In-Power) → exponent c.before.before.before.before.before.args.width ≡ PowerOfTwo.Power c.before.n-1.given.0.0
-power c = sym c.before.before.before.exponent.ensures ∙ c.before.n-1.given.1
+power : (c : tie.In-Power) → exponent c.before.before.before.before.before.args.width ≡ PowerOfTwo.Power c.before.in-Power.n
+power c = sym c.before.before.before.exponent.ensures ∙ c.before.in-Power.is
 
-few : (c : goal.In-Power) → let a = c.before.before.before.before.before.args in a.width * a.height ≤ 65536
+few : (c : tie.In-Power) → let a = c.before.before.before.before.before.args in a.width * a.height ≤ 65536
 few c =
     let a = c.before.before.before.before.before.args in
     let w : a.width ≤ 256 = width_small a.width (power c) in
@@ -32,7 +33,7 @@ returns-then-width-height c = width_not_height _ _ c.if-width-height.true
 
 pub returns-in_default : goal.returns-in_default
 returns-in_default c =
-    let none = sym c.before.before.exponent.ensures ∙ c.enum_told-1.given.1 in
+    let none = sym c.before.before.exponent.ensures ∙ c.in_default.is in
     width_no_power _ _ c.before.before.before.if-width-height.false none
 
 pub overflow_mul-count : goal.overflow_mul-count

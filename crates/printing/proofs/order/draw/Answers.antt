@@ -21,10 +21,10 @@ write_picture-requires-in-BlockOrder c =
     rows_fit called.before.before.before.before.before.before.requires (omega arith) called.from_block_order-done.ensures
 
 pub returns-in-Rows : goal.returns-in-Rows
-returns-in-Rows c = drawn_by_rows _ _ c.before.before.before.before.enum_told-1.given.1 c.before.before.write_picture.ensures
+returns-in-Rows c = drawn_by_rows _ _ c.before.before.before.before.in-Rows.is c.before.before.write_picture.ensures
 
 pub returns-in-BlockOrder : goal.returns-in-BlockOrder
 returns-in-BlockOrder c =
     let called = c.before.before.before.before.before.before.before in
     let told = called.before.before in
-    drawn_by_blocks told.before.before.before.before.requires (omega arith) called.from_block_order-done.ensures told.enum_told-in-BlockOrder-1.given.1 c.before.before.write_picture-in-BlockOrder.ensures
+    drawn_by_blocks told.before.before.before.before.requires (omega arith) called.from_block_order-done.ensures told.in-BlockOrder.is c.before.before.write_picture-in-BlockOrder.ensures

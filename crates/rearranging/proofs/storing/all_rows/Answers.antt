@@ -1,10 +1,12 @@
 use Prim.Native.Nat.{◌-◌}
 use native.Mathlib.Omega.{arith}
 use Rattle.rearranging.specs.Rows.{width, rows-begun, rows_more, rows-done, rows-length, row_fits}
+use Rattle.rearranging.proofs.storing.all_rows.Invariants.{invariant-loop-y, decreases-loop-y}
 use Rattle.rearranging.proofs.storing.all_rows.Goals as goal
+use Rattle.rearranging.proofs.storing.all_rows.Tie as tie
 
 -- Where the call began.
-abbrev entry : goal.At-loop-y → goal.Start
+abbrev entry : tie.At-loop-y invariant-loop-y decreases-loop-y → tie.Start invariant-loop-y decreases-loop-y
 entry c = c.before.before.before.before.before
 
 pub loop-y-init : goal.loop-y-init

@@ -1,20 +1,22 @@
 use Prim.Native.Nat.{◌+◌, ◌-◌, ◌*◌, ◌^◌, ◌≤◌, ◌<◌}
 use native.Mathlib.Omega.{arith}
 use Rattle.rearranging.specs.Rows.{width, few, column-byte, place_inside, code_inside, pixel_stored, row-begun, row_more, row_done, row-length}
+use Rattle.rearranging.proofs.storing.one_row.Invariants.{invariant-loop-x, decreases-loop-x}
 use Rattle.rearranging.proofs.storing.one_row.Goals as goal
+use Rattle.rearranging.proofs.storing.one_row.Tie as tie
 
 -- In a turn: where the call began, the side, and the pixel with its code.
-abbrev entry : goal.In-loop-x → goal.Start
+abbrev entry : tie.In-loop-x invariant-loop-x decreases-loop-x → tie.Start invariant-loop-x decreases-loop-x
 entry c = c.before.before.before.before.before
 
-enough : (c : goal.In-loop-x) → (4 ^ (entry c).args.n ≤ 65536) × ((entry c).args.y < 256) × ((entry c).args.y * c.before.before.side-w.result < 65536)
+enough : (c : tie.In-loop-x invariant-loop-x decreases-loop-x) → (4 ^ (entry c).args.n ≤ 65536) × ((entry c).args.y < 256) × ((entry c).args.y * c.before.before.side-w.result < 65536)
 enough c = few (entry c).requires c.before.before.side-w.ensures
 
-at-pixel : (c : goal.In-loop-x) → (entry c).args.y * c.before.before.side-w.result + c.before.loop-x.x < 4 ^ (entry c).args.n
+at-pixel : (c : tie.In-loop-x invariant-loop-x decreases-loop-x) → (entry c).args.y * c.before.before.side-w.result + c.before.loop-x.x < 4 ^ (entry c).args.n
 at-pixel c = place_inside (entry c).requires c.before.before.side-w.ensures c.loop-x-test.true
 
-at_code : (c : goal.After-code8-c) → c.code8-c.result < 4 ^ (entry c.before).args.n
-at_code c = code_inside (entry c.before).requires c.before.before.before.side-w.ensures c.before.loop-x-test.true c.code8-c.ensures
+at_code : (c : tie.After-code8-c invariant-loop-x decreases-loop-x) → c.code8-c.result < 4 ^ (entry c.before).args.n
+at_code c = code_inside (entry c.before).pre c.before.before.before.side-w.ensures c.before.loop-x-test.true c.code8-c.ensures
 
 pub overflow_mul-start : goal.overflow_mul-start
 overflow_mul-start c = omega (arith, (few c.before.before.before.requires c.side-w.ensures).2)

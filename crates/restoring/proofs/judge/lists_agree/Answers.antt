@@ -6,15 +6,16 @@ use Rattle.sequences.specs.Powers.{pow4_mono}
 use Rattle.location.specs.Levels.{pixels_are_power}
 use Rattle.restoring.specs.Judging.{too_many_regions, too_many_cycles, too_many_corners, by_ends}
 use Rattle.restoring.proofs.judge.lists_agree.Goals as goal
+use Rattle.restoring.proofs.judge.lists_agree.Tie as tie
 
 -- Where the call began, seen from where the number of pixels is known.
-abbrev entry : goal.After-pixels-whole → goal.Start
+abbrev entry : tie.After-pixels-whole → tie.Start
 entry c = c.before.before.before.before.before
 
-small : (c : goal.After-pixels-whole) → (entry c).args.n ≤ 8
+small : (c : tie.After-pixels-whole) → (entry c).args.n ≤ 8
 small c = (entry c).requires.0
 
-whole : (c : goal.After-pixels-whole) → c.pixels-whole.result ≡ 4 ^ (entry c).args.n
+whole : (c : tie.After-pixels-whole) → c.pixels-whole.result ≡ 4 ^ (entry c).args.n
 whole c = c.pixels-whole.ensures ∙ pixels_are_power (entry c).args.n (omega (arith, small c))
 
 pub returns-then-whole-region_colours : goal.returns-then-whole-region_colours

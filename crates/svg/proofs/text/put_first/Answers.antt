@@ -9,20 +9,21 @@ use Rattle.svg.specs.Svg.{word}
 use Rattle.answers.specs.Put.{put_both}
 use Rattle.svg.specs.Stores.{number_short}
 use Rattle.svg.proofs.text.put_first.Goals as goal
+use Rattle.svg.proofs.text.put_first.Tie as tie
 
 -- M and x take at most 4 bytes; y has at most three digits.
-x-short : (c : goal.After-put_number-n) → c.put_number-n.result ≤ 4
+x-short : (c : tie.After-put_number-n) → c.put_number-n.result ≤ 4
 x-short c = number_short 77 (c.before.before.before.args.c % 512) c.put_number-n.result (omega arith) c.put_number-n.ensures.count_is
 
-y-small : (c : goal.After-put_number-n) → c.before.before.before.args.c / 512 < 1000
+y-small : (c : tie.After-put_number-n) → c.before.before.before.args.c / 512 < 1000
 unfolding y_of
 y-small c = let s = c.before.before.before in omega (arith, inside_says s.args.c s.requires.1)
 
 -- Past the second piece.
-abbrev first : goal.After-put_number-m → goal.After-put_number-n
+abbrev first : tie.After-put_number-m → tie.After-put_number-n
 first c = c.before.before.before.before
 
-y-short : (c : goal.After-put_number-m) → c.put_number-m.result ≤ 4
+y-short : (c : tie.After-put_number-m) → c.put_number-m.result ≤ 4
 y-short c = number_short 32 ((first c).before.before.before.args.c / 512) c.put_number-m.result (y-small (first c)) c.put_number-m.ensures.count_is
 
 pub slice_bounds-put_number-count : goal.slice_bounds-put_number-count
@@ -43,4 +44,4 @@ returns c =
     let p = (first c.before.before).put_number-n in
     let q = c.before.before.put_number-m in
     let a = (first c.before.before).before.before.before.args in
-    put_both (77 ∷ decimal (a.c % 512)) (32 ∷ decimal (a.c / 512)) a.text-1.now q.new.0 p.result q.result p.ensures q.ensures
+    put_both (77 ∷ decimal (a.c % 512)) (32 ∷ decimal (a.c / 512)) a.text.now q.new.0 p.result q.result p.ensures q.ensures
