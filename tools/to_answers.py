@@ -1,225 +1,281 @@
 #!/usr/bin/env python3
-"""Turns each proofs/F/Proof.antt of a crate into Invariants.antt and Answers.antt.
+"""Turns each proofs/F/Proof.antt of a crate into Invariants.antt and Answers.antt: goals and steps by their names of today, `before` left out,
+and helpers over the places of the code written out where they are used.
 
-usage: convert.py CRATE_DIR NAMES_JSON     names.json as `rt names OUT` writes it
+usage: to_answers.py CRATE_DIR NAMES_JSON     names.json as `rt names OUT` writes it
 """
 import glob, json, os, re, sys
 
-W = r"[^\s(){}\[\],;.:=λ→↦|\"«»`]+"
+C = r"[^\s(){}\[\],;.:=λ→↦|\"«»`]"
+W = C + "+"
 FIELDS = {"pre": "requires", "inv": "invariant", "taken": "true", "left": "false", "untaken": "false"}
+ID = re.compile(r"(?<![\w.'₀-₉-])(" + W + ")")
 
 def norm(s):
     return s.replace("_", "-")
 
-def blocks(text):
-    """Top-level items: lists of lines; a comment line belongs to the item that follows."""
-    items, cur, comments = [], [], []
+def items(text):
+    """Top-level items as lists of lines; comments belong to the item that follows."""
+    out, cur, comments, name = [], [], [], ""
     for line in text.split("\n"):
         if line.startswith("--"):
-            if cur: items.append(cur); cur = []
-            comments.append(line)
+            if cur: out.append(cur); cur = []
+            if not line.startswith("-- ----"): comments.append(line)
         elif line and not line[0].isspace():
             m = re.match(r"(?:pub |abbrev |unfoldable )*(" + W + r")", line)
-            name = m.group(1) if m else ""
-            if cur and name and cur_name == name and not line.startswith(("use ", "abbrev ")):
-                cur.append(line)
-            elif cur and line.startswith("unfolding "):
+            n = m.group(1) if m else ""
+            if cur and (line.startswith("unfolding ") or (n == name and not line.startswith(("use ", "abbrev ", "pub ")))):
                 cur.append(line)
             else:
-                if cur: items.append(cur)
-                cur = comments + [line]; comments = []
-                cur_name = name
-        elif not line.strip():
-            if cur: cur.append(line)
-            elif comments: comments.append(line)
-        else:
+                if cur: out.append(cur)
+                cur, comments, name = comments + [line], [], n
+        elif line.strip():
             cur.append(line)
-    if cur: items.append(cur)
-    return items
+    if cur: out.append(cur)
+    return out
 
-def convert(fn_dir, names, modpath, crate):
+def matching(t, i):
+    """The place after the bracket that closes the one at i."""
+    depth = 0
+    for j in range(i, len(t)):
+        if t[j] in "([{": depth += 1
+        elif t[j] in ")]}":
+            depth -= 1
+            if not depth: return j + 1
+    return len(t)
+
+def atom(t, i):
+    """An argument that begins at i: the place after it, or None."""
+    while i < len(t) and t[i] in " \n": i += 1
+    if i >= len(t): return None
+    if t[i] in "(":
+        j = matching(t, i)
+    else:
+        m = re.compile(W).match(t, i)
+        if not m or m.group(0) in ("in", "let", "∙", "$", "λ", "elim", "record"): return None
+        j = m.end()
+    m = re.compile(r"(?:\.[\w'₀-₉-]+)*").match(t, j)
+    return (i, m.end())
+
+def subst(body, params, args):
+    for p, a in zip(params, args):
+        body = re.sub(r"(?<![\w.'₀-₉-])" + re.escape(p) + r"(?![\w'₀-₉-])", lambda m: a, body)
+    return body
+
+def expand(t, helpers, depth=0):
+    if depth > 12: return t
+    for name, (params, body) in helpers.items():
+        pos = 0
+        while True:
+            m = re.compile(r"(?<![\w.'₀-₉-])" + re.escape(name) + r"(?![\w'₀-₉-])").search(t, pos)
+            if not m: break
+            j, args = m.end(), []
+            for _ in params:
+                a = atom(t, j)
+                if a is None: break
+                args.append(t[a[0]:a[1]]); j = a[1]
+            if len(args) < len(params):
+                pos = m.end(); continue
+            new = subst(body, params, args)
+            a = m.start(); b = j
+            # (name x) as a whole
+            if a and t[a-1] == "(" and b < len(t) and t[b] == ")":
+                a -= 1; b += 1
+            plain = re.fullmatch(W + r"(?:\.[\w'₀-₉-]+)*", new) or (new.startswith("(") and matching(new, 0) == len(new))
+            new = new if plain else "(" + new + ")"
+            t = t[:a] + new + t[b:]
+            pos = a
+            if len(t) > 60000: return t
+    return t
+
+def flat(lines):
+    return re.sub(r"\s+", " ", " ".join(l.split(" -- ")[0].strip() for l in lines)).strip()
+
+def convert(fn_dir, names, modpath):
     src = open(os.path.join(fn_dir, "Proof.antt"), encoding="utf-8").read()
-    needs = {norm(o): n for o, n in names["needs"]}
+    needs, at = {}, {}
+    for (o, n), a in zip(names["needs"], names["asked_at"] if len(names["asked_at"]) == len(names["needs"]) else [None] * len(names["needs"])):
+        needs[norm(o)] = n
+        at[n] = a
     for o, n in names["needs"]: needs.setdefault(norm(n), n)
-    places, steps = {}, {}
-    news = names["places_by_name"]
-    for p, new in zip(names["places"], news):
-        places[norm(p[0])] = new
-    # per-place chains: new place -> {old step -> new step}
-    chain = {}
-    index = {p[0]: i for i, p in enumerate(names["places"])}
-    for p in names["places"]:
-        o, n = p[2]
-        if o: steps.setdefault(norm(o), []) ; steps[norm(o)].append(n) if n not in steps[norm(o)] else None
-    arms = []
-    for i, a in enumerate(names.get("arms", [])):
-        if not a: continue
-        for new_field, old_step, old_path in a[2]:
-            arms.append((norm(old_step), list(old_path), a[0], new_field))
+    place = {p[0]: (i, p) for i, p in enumerate(names["places"])}
+    arms_of = names.get("arms", [])
+
+    def chain(p):
+        """From the place to the start: (old step, new step, arm of it)."""
+        out = []
+        while p is not None:
+            i, q = place[p]
+            a = arms_of[i] if i < len(arms_of) else None
+            out.append((norm(q[2][0]), q[2][1], a))
+            p = q[1]
+        return out
+
+    everywhere = []
+    for p in names["places"]: everywhere += chain(p[0])[:1]
     loops = {norm(l[0][0]): (l[0][1], l[1]) for l in names["loops"]}
-    its = blocks(src)
-    uses, invs, answers, head = [], [], [], []
-    labels, searched = {}, {}
-    # leading comment block of file
-    for it in its:
+    variables = {v for _, vs in loops.values() for v in vs}
+    uses, invs, answers, head, helpers, kept, labels, searched = [], [], [], [], {}, [], {}, {}
+    warn = []
+    for it in items(src):
         body = [l for l in it if not l.startswith("--")]
-        while body and not body[0].strip(): body.pop(0)
-        comm = [l for l in it if l.startswith("--") and not l.startswith("-- ----")]
-        first = next((l for l in body if l.strip()), "")
+        comm = [l for l in it if l.startswith("--")]
+        if not body: continue
+        first = body[0]
         if first.startswith("use "):
-            head += comm
-            uses.append(first)
-            continue
-        text = "\n".join(it).rstrip("\n")
+            head += comm; uses.append(first); continue
+        text = "\n".join(body)
         m = re.match(r"abbrev (?:pub )?(invariant|decreases)-(" + W + r") : tie\.", first)
         if m:
             kind, loop = m.group(1), norm(m.group(2))
             new, vs = loops.get(loop, ("?" + loop, []))
-            rest = "\n".join(body)
-            d = re.search(r"^(?:" + m.group(1) + "-" + re.escape(m.group(2)) + r")((?: " + W + r")*) =(.*)$", rest, re.M | re.S)
+            d = re.search(r"^" + re.escape(m.group(1) + "-" + m.group(2)) + r"((?: " + W + r")*) =(.*)$", text, re.M | re.S)
             params, rhs = d.group(1).split(), d.group(2).rstrip()
             def sub(mm):
-                w = mm.group(0)
-                pos = mm.start()
-                before = rhs[pos-1] if pos else ""
-                if before == ".": return w
-                if w in params:
-                    base = w[:-1] if w.endswith("₀") else w
-                    ini = w.endswith("₀") and (base in params)
-                    if w == "_" : return w
-                    return ("l.initial." if ini else "l.") + base
-                return w
-            rhs2 = re.sub(W, sub, rhs)
+                w = mm.group(1)
+                if w not in params or w == "_": return w
+                base = w[:-1] if w.endswith("₀") else w
+                return ("l.initial." if w.endswith("₀") and base in params else "l.") + base
             unf = [l for l in body if l.startswith("unfolding")]
-            invs.append("\n".join(comm + [f"abbrev pub {kind}-{new} : goal.{kind}-{new}"] + unf + [f"{kind}-{new} l ={rhs2}"]))
+            invs.append("\n".join(comm + [f"abbrev pub {kind}-{new} : goal.{kind}-{new}"] + unf + [f"{kind}-{new} l ={ID.sub(sub, rhs)}"]))
             continue
-        if re.search(r"\b(?:tie\.close|tie\.spec)\b", text) and "_spec" in text.replace("-spec", "_spec"):
-            continue
-        m = re.match(r"(?:pub )?(" + W + r") : tie\.Need-(" + W + r")((?: " + W + r")*)$", first)
+        if re.search(r"\btie\.(?:close|spec)\b", text): continue
+        m = re.match(r"(?:pub )?(" + W + r") : tie\.Need-(" + W + r")(?: " + W + r")*$", first)
         if m:
-            label, need = m.group(1), m.group(2)
-            key = re.sub(r"^(overflow|enum-|struct-)?-", "", norm(need)) if norm(need) not in needs else norm(need)
-            if key.startswith("overflow-") : key = key[len("overflow-"):]
-            new = needs.get(key)
-            rest = "\n".join(body[1:]).rstrip("\n")
-            mm = re.search(r"^" + re.escape(label) + r"((?: " + W + r")*) =", rest, re.M)
-            rhs = rest[mm.end():].strip() if mm else ""
-            if new is not None: labels[label] = new
-            if rhs in ("search rules",):
-                searched[label] = (new, need)
-                continue
+            label, need = m.group(1), norm(m.group(2))
+            for k in (need, re.sub(r"^overflow-", "", need)):
+                if k in needs: break
+            new = needs.get(k)
+            mm = re.search(r"^" + re.escape(label) + r"((?: " + W + r")*) =", "\n".join(body[1:]), re.M)
+            rest = "\n".join(body[1:])
+            rhs, args = rest[mm.end():], [a for a in mm.group(1).split() if a != "κs"]
+            unf = [l for l in body if l.startswith("unfolding")]
             if new is None:
-                answers.append("-- NO GOAL " + need + "\n-- " + "\n-- ".join(text.split("\n")))
-                continue
-            pre = rest[:mm.start()] if mm else ""
-            args = mm.group(1).split()
-            args = [a for a in args if a != "κs"]
-            answers.append(("\n".join(comm) + "\n" if comm else "") + f"pub {new} : goal.{new}\n{pre}{new} {' '.join(args)} = {rhs}" if "\n" not in rhs else ("\n".join(comm) + "\n" if comm else "") + f"pub {new} : goal.{new}\n{pre}{new} {' '.join(args)} =\n    {rhs}")
+                warn.append(f"no goal for {need}"); kept.append("-- no goal: " + need); continue
+            labels[label] = new
+            if rhs.strip() == "search rules":
+                searched[label] = new; continue
+            answers.append([comm, new, unf, args, rhs.strip("\n"), label])
             continue
-        answers.append(text)
-    invnames = r"(?: (?:invariant|decreases)-" + W + r")*"
-    newinv = "".join(f" {k}-{l[0][1]}" for l in names["loops"] for k in ("invariant", "decreases")) if False else ""
-    given = " ".join([f"invariant-{l[0][1]}" for l in names["loops"]] + [f"decreases-{l[0][1]}" for l in names["loops"]])
-    used_tie = [False]
+        m = re.match(r"(?:pub |abbrev |unfoldable )*(" + W + r") :(.*)", text, re.S)
+        if m and "tie." in text:
+            name = m.group(1)
+            rest = text[m.end(1):]
+            mm = re.search(r"^" + re.escape(name) + r"((?: " + W + r")*) =(.*)", text, re.M | re.S)
+            if mm and not re.search(r"^\s+where", text, re.M):
+                params = mm.group(1).split()
+                unf = [l[10:] for l in body if l.startswith("unfolding ")]
+                b = flat(mm.group(2).split("\n"))
+                ty = text[m.end(1) + 2: mm.start()].strip()
+                res = flat([l for l in ty.split("\n") if not l.startswith("unfolding")])
+                is_place = re.search(r"(?:→ |^)tie\." + W + r"(?: (?:invariant|decreases)-" + W + r")*$", res)
+                helpers[name] = (params, b, unf, bool(is_place), res)
+                continue
+        kept.append("\n".join(comm + body))
 
-    def place(m):
-        used_tie[0] = True
-        new = places.get(norm(m.group(1)), "??" + m.group(1))
-        inv = m.group(0)[m.end(1) - m.start(0):]
-        inv2 = re.sub(r"(invariant|decreases)-(" + W + ")", lambda k: k.group(1) + "-" + loops.get(norm(k.group(2)), ("?" + k.group(2),))[0], inv)
-        return "tie." + new + inv2
+    # helpers over places, written out
+    def drop_before(t):
+        return re.sub(r"(?:\.before)+(?![\w-])", "", t)
+    table = {}
+    for name, (params, b, unf, is_place, res) in helpers.items():
+        b = drop_before(b)
+        table[name] = (params, b)
+    def steps_for(goal):
+        a = at.get(goal)
+        if a and a[0] in place: return chain(a[0]), True
+        if a and a[0] not in place:
+            q = a[0].replace("-unread", "")
+            if q in place: return chain(q), True
+        return everywhere, False
 
-    def path(m):
-        root, rest = m.group(1), m.group(2).split(".")[1:]
-        pre = []
-        while rest and rest[0] == "before":
-            pre.append(rest.pop(0))
-        if rest and root not in ("l", "goal", "tie", "Rattle") and not root[0].isupper():
+    def turn(t, goal):
+        ch, sure = steps_for(goal)
+        both = ch + everywhere
+        def path(m):
+            root, rest = m.group(1), m.group(2).split(".")[1:]
+            if root in ("goal", "tie", "Rattle") or root[0].isupper(): return m.group(0)
+            rest = [x for x in rest if x != "before"]
+            if not rest: return root
             w = rest[0]
             key = norm(w)
-            if key not in steps and key.endswith("-lem") and key[:-4] in steps: key = key[:-4]
-            hits = []
-            for s, p, newstep, newfield in arms:
-                if s == key and p and rest[1:1 + len(p)] == p:
-                    hits.append((len(p), newstep, newfield, rest[1 + len(p):]))
-            if hits:
-                best = max(h[0] for h in hits)
-                hits = [h for h in hits if h[0] == best]
-                _, ns, nf, tail = hits[0]
-                rest = [ns, nf] + tail
-            elif key in steps and w not in ("args", "requires", "before"):
-                c = steps[key]
-                if norm(c[0]) != key + "-1":
-                    rest = [c[0]] + rest[1:]
-        rest = [FIELDS.get(x, x) if i else x for i, x in enumerate(rest)]
-        return root + "".join("." + x for x in pre + rest)
+            known = {s for s, _, _ in both}
+            if key not in known and key.endswith("-lem") and key[:-4] in known: key = key[:-4]
+            hit = None
+            for c in (ch, everywhere):
+                for s, n, arm in c:
+                    if not arm: continue
+                    for nf, os_, op in arm[2]:
+                        if norm(os_) == key and op and rest[1:1 + len(op)] == list(op):
+                            if hit is None or len(op) > hit[0]: hit = (len(op), arm[0], nf)
+                if hit: break
+            if hit:
+                rest = [hit[1], hit[2]] + rest[1 + hit[0]:]
+            elif w not in ("args", "requires", "result", "ensures", "ranges"):
+                for s, n, arm in both:
+                    if s == key:
+                        if norm(n) != key + "-1" or key.startswith(("shared-slice", "slice-known", "struct-known", "enum")): rest = [n] + rest[1:]
+                        break
+            rest = [FIELDS.get(x, x) if i else x for i, x in enumerate(rest)]
+            return root + "".join("." + x for x in rest)
+        t = drop_before(t)
+        # a let that only names a place
+        while True:
+            m = re.search(r"let (" + W + r") = (c) in\s*", t)
+            if not m: break
+            v = m.group(1)
+            t = t[:m.start()] + re.sub(r"(?<![\w.'₀-₉-])" + re.escape(v) + r"(?![\w'₀-₉-])", m.group(2), t[m.end():])
+        t = re.sub(r"\((c)\)", r"\1", t)
+        t = re.sub(r"(?<![\w.'₀-₉-])(" + W + r")((?:\.[\w'₀-₉-]+)+)", path, t)
+        t = re.sub(r"(\))((?:\.[\w'₀-₉-]+)+)", path, t)
+        t = re.sub(r"not-(?:true|false) (?:[\w.'-]+|\([^()]*\)) ([\w.'-]*\.(?:true|false))(?![\w])", r"\1", t)
+        t = re.sub(r"\(([\w.'-]+\.(?:true|false))\)", r"\1", t)
+        t = re.sub(r"\((c)\)", r"\1", t)
+        return t
 
-    def turn(t):
-        t = re.sub(r"tie\.Need-(" + W + r")" + invnames, lambda m: "goal." + needs.get(norm(m.group(1)), needs.get(norm(m.group(1)).replace("overflow-", ""), "??" + m.group(1))), t)
-        t = re.sub(r"tie\.(" + W + r")" + invnames, place, t)
-        out = []
-        for l in t.split("\n"):
-            if not l.startswith(("use ", "--", "unfolding ")):
-                l = re.sub(r"(?<![\w.'-])(" + W + r")((?:\.[A-Za-z0-9_'₀-₉-]+)+)", path, l)
-                l = re.sub(r"(\))((?:\.[A-Za-z0-9_'₀-₉-]+)+)", path, l)
-                l = re.sub(r"not-(?:true|false) \S+ (\S*[\w])(?=[\s,;)]|$)", lambda m: m.group(1), l)
-                l = re.sub(r"\(([\w.-]+\.(?:true|false))\)", r"\1", l)
-            out.append(l)
-        return "\n".join(out)
-
-    cited = set(re.findall(W, "\n".join(answers)))
-    for lab, (new, need) in searched.items():
-        if new and lab in cited and re.search(r"(?<![\w.-])" + re.escape(lab) + r" ", "\n".join(answers)):
-            answers.insert(0, f"pub {new} : goal.{new}\n{new} c = search rules")
-    order = sorted(labels, key=len, reverse=True)
-    def cite(a):
-        ls = a.split("\n")
-        head = next((i for i, l in enumerate(ls) if re.match(r"(pub |abbrev )*" + W + r" :", l)), None)
-        own = re.match(r"(?:pub |abbrev )*(" + W + r") :", ls[head]).group(1) if head is not None else ""
-        res = []
-        for l in ls:
-            if l.startswith("--") or l.startswith("pub ") or l.startswith(own + " "):
-                if l.startswith(own + " ") and "=" in l:
-                    k = l.index("=")
-                    l = l[:k] + re.sub(r"(?<![\w.'-])(" + W + r")(?![\w'-])", lambda m: labels.get(m.group(1), m.group(1)) if m.group(1) in labels else m.group(1), l[k:])
-                res.append(l)
-            else:
-                res.append(re.sub(r"(?<![\w.'-])(" + W + r")", lambda m: labels.get(m.group(1), m.group(1)), l))
-        return "\n".join(res)
-    answers = [cite(a) for a in answers]
-    answers = [turn(a) for a in answers]
-    invs = [turn(i) for i in invs]
-    lemma_of = {}
+    out = []
+    for comm, new, unf, args, rhs, label in answers:
+        used = set()
+        t = drop_before(rhs)
+        for _ in range(8):
+            hit = [h for h in table if re.search(r"(?<![\w.'₀-₉-])" + re.escape(h) + r"(?![\w'₀-₉-])", t)]
+            if not hit: break
+            used.update(hit)
+            t = expand(t, {h: table[h] for h in hit})
+        t = turn(t, new)
+        t = ID.sub(lambda m: labels[m.group(1)] if m.group(1) in labels and m.group(1) not in ("returns",) and labels[m.group(1)] != m.group(1) else m.group(1), t)
+        if re.search(r"(?<![\w.'₀-₉-])returns c", t): t = re.sub(r"(?<![\w.'₀-₉-])returns (?=c)", labels.get("returns", "returns") + " ", t)
+        more = [u for h in used for u in helpers[h][2]]
+        if more:
+            ws = " ".join(unf).replace("unfolding", "").split() + " ".join(more).split()
+            unf = ["unfolding " + " ".join(dict.fromkeys(ws))]
+        for lab in list(searched):
+            if re.search(r"(?<![\w.'₀-₉-])" + re.escape(searched[lab]) + r" c(?![\w'])", t) or re.search(r"(?<![\w.'₀-₉-])" + re.escape(lab) + r" c(?![\w'])", t):
+                s = searched.pop(lab)
+                out.insert(0, f"pub {s} : goal.{s}\n{s} c = search rules")
+        sep = "\n" if "\n" in t and t.startswith("\n") else " "
+        out.append("\n".join(comm + [f"pub {new} : goal.{new}"] + unf + [f"{new} {' '.join(args)} =" + (("\n" + t.lstrip("\n")) if "\n" in t.strip() else " " + t.strip())]))
+    answers = kept + out
     uses = [u for u in uses if ".Statement.{statement}" not in u and not u.endswith(" as tie")]
-    alluse = "\n".join(uses)
-    amb = sorted({s for s, c in steps.items() if len(c) > 1})
-    def put(name, parts, imp, head):
+
+    def put(name, parts, imp, top):
         if not parts: return
-        # keep only the uses whose names are cited
         body = "\n\n".join(parts)
         toks = set(re.findall(W, body))
-        kept = []
+        kept_uses = []
         for u in uses:
             m = re.match(r"use (\S+)\.\{(.*)\}$", u)
-            if not m: kept.append(u); continue
-            ns = [n.strip() for n in m.group(2).split(",")]
+            if not m: kept_uses.append(u); continue
             k = []
-            for n in ns:
+            for n in [n.strip() for n in m.group(2).split(",")]:
                 base = n.split(" as ")[-1]
-                op = re.sub("◌", "", base)
-                if op in (">>=", ">>") and re.search(r"\bdo\b", body): k.append(n); continue
-                if base in toks or (op != base and op in toks) or (op != base and op in body): k.append(n)
-            if k: kept.append(f"use {m.group(1)}.{{{', '.join(k)}}}")
-        open(os.path.join(fn_dir, name), "w", encoding="utf-8").write("\n".join(head + kept + [imp, ""]) + "\n" + body + "\n")
-    put("Invariants.antt", invs, f"use {modpath}.Given as goal", head if not answers else head)
-    imp = f"use {modpath}.Goals as goal"
-    if used_tie[0]:
-        imp += f"\nuse {modpath}.Tie as tie"
-        cited = [w for w in given.split() if any(w in re.findall(W, a) for a in answers)]
-        if cited: imp = f"use {modpath}.Invariants.{{{', '.join(cited)}}}\n" + imp
-    put("Answers.antt", answers, imp, [] if invs else head)
+                op = base.replace("◌", "")
+                if base in toks or (op != base and (op in toks or op in body)) or (op in (">>=", ">>") and re.search(r"\bdo\b", body)): k.append(n)
+            if k: kept_uses.append(f"use {m.group(1)}.{{{', '.join(k)}}}")
+        open(os.path.join(fn_dir, name), "w", encoding="utf-8").write("\n".join(top + kept_uses + [imp, ""]) + "\n" + body + "\n")
+    put("Invariants.antt", invs, f"use {modpath}.Given as goal", head)
+    put("Answers.antt", answers, f"use {modpath}.Goals as goal", [] if invs else head)
     os.remove(os.path.join(fn_dir, "Proof.antt"))
-    return amb
+    return warn
 
 def main(crate_dir, names_file):
     d = json.load(open(names_file))
@@ -228,8 +284,8 @@ def main(crate_dir, names_file):
         fn = os.path.relpath(os.path.dirname(p), os.path.join(crate_dir, "proofs")).replace("/", ".")
         key = f"Rattle-{crate}-proofs.{fn}.Lts"
         if key not in d:
-            print("no names for", fn, [k for k in d if fn.split('.')[-1] in k][:3]); continue
-        amb = convert(os.path.dirname(p), d[key], f"Rattle.{crate}.proofs.{fn}", crate)
-        print("converted", fn, "ambiguous steps:", amb if amb else "")
+            print("no names for", fn); continue
+        w = convert(os.path.dirname(p), d[key], f"Rattle.{crate}.proofs.{fn}")
+        if w: print(crate, fn, w)
 
 main(*sys.argv[1:3])

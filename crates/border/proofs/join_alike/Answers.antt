@@ -3,17 +3,12 @@ use Rattle.components.specs.Spans.{alike_forest, unlike_forest, done-kept}
 use Rattle.border.proofs.join_alike.Goals as goal
 
 pub returns-then-b-last : goal.returns-then-b-last
-returns-then-b-last c =
-    let s = c.before.before.before in
-    done-kept s.args.colours.now s.args.k s.requires.low c.if-b-last.true s.requires.done
+returns-then-b-last c = done-kept c.args.colours.now c.args.k c.requires.low c.if-b-last.true c.requires.done
 
 pub returns-then-colours-b : goal.returns-then-colours-b
 returns-then-colours-b c =
-    let t = c.before.before.before.before in
-    let a = t.before.before.before.before.before.before.args in
-    alike_forest a.colours.now a.b a.k t.if-colours-b.true c.before.before.join.ensures
+    let a = c.args in
+    alike_forest a.colours.now a.b a.k c.if-colours-b.true c.join.ensures
 
 pub returns-else-colours-b : goal.returns-else-colours-b
-returns-else-colours-b c =
-    let s = c.before.before.before.before.before.before in
-    unlike_forest s.args.colours.now s.args.b s.args.k c.if-colours-b.false s.requires.low
+returns-else-colours-b c = unlike_forest c.args.colours.now c.args.b c.args.k c.if-colours-b.false c.requires.low

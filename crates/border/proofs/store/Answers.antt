@@ -9,16 +9,14 @@ use Rattle.border.specs.Walk.{stored_single}
 use Rattle.border.proofs.store.Goals as goal
 
 pub bounds-work-w : goal.bounds-work-w
-bounds-work-w c = simp length-set (omega (arith, c.before.before.requires.in_rows, c.if-s-eq1.true))
+bounds-work-w c = simp length-set (omega (arith, c.requires.in_rows, c.if-s-eq1.true))
 
 pub returns-then-s-eq1 : goal.returns-then-s-eq1
 returns-then-s-eq1 c =
-    let a = c.before.before.args in
+    let a = c.args in
     stored_single a.work.now a.w a.x a.y a.s a.k c.if-s-eq1.true
 
 pub returns : goal.returns
 returns c =
-    let second = c.before.before in
-    let first = second.before.before.before.before in
-    let a = first.before.before.before.before.args in
-    second.fill-2.ensures ∙ ap (λ (l : List ℕ). fill l (a.w + a.y) a.s a.k) first.fill.ensures
+    let a = c.args in
+    c.fill-2.ensures ∙ ap (λ (l : List ℕ). fill l (a.w + a.y) a.s a.k) c.fill.ensures

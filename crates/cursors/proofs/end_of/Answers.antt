@@ -5,11 +5,7 @@ use Rattle.location.specs.Levels.{pixels_are_power}
 use Rattle.cursors.proofs.end_of.Goals as goal
 
 pub overflow_add-result : goal.overflow_add-result
-overflow_add-result c =
-    let start = c.before in
-    omega (arith, start.requires, c.pixels.ensures, pixels_are_power start.args.level (omega (arith, start.requires)), pow4_mono start.requires.1)
+overflow_add-result c = omega (arith, c.requires, c.pixels.ensures, pixels_are_power c.args.level (omega (arith, c.requires)), pow4_mono c.requires.1)
 
 pub returns : goal.returns
-returns c =
-    let start = c.before in
-    omega (arith, c.pixels.ensures, pixels_are_power start.args.level (omega (arith, start.requires)))
+returns c = omega (arith, c.pixels.ensures, pixels_are_power c.args.level (omega (arith, c.requires)))

@@ -6,14 +6,10 @@ use Rattle.drawing.proofs.write_outlines.Goals as goal
 
 pub returns : goal.returns
 returns c =
-    let traced = c.before.before.before.before.before.before.before.before.before.before.before.before.before in
-    let start = traced.before.before.before.before.before.before.before.before.before.before.before in
-    drawn (omega (arith, start.requires.low))
-    (outlined start.requires traced.trace-traced.ensures (omega arith) (omega arith) (omega arith) (omega arith) (omega arith) (omega arith)) c.before.before.write.ensures
+    drawn (omega (arith, c.requires.low))
+    (outlined c.requires c.trace-traced.ensures (omega arith) (omega arith) (omega arith) (omega arith) (omega arith) (omega arith)) c.write.ensures
 
 pub write-requires : goal.write-requires
 write-requires c =
-    let traced = c.before.before.before.before.before.before.before.before.before.before in
-    let start = traced.before.before.before.before.before.before.before.before.before.before.before in
-    drawable (omega (arith, start.requires.low))
-    (outlined start.requires traced.trace-traced.ensures (omega arith) (omega arith) (omega arith) (omega arith) (omega arith) (omega arith)) start.requires.enough
+    drawable (omega (arith, c.requires.low))
+    (outlined c.requires c.trace-traced.ensures (omega arith) (omega arith) (omega arith) (omega arith) (omega arith) (omega arith)) c.requires.enough

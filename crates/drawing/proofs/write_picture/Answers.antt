@@ -5,39 +5,34 @@ use Rattle.drawing.specs.Picturing.{merged_traceable, merged_drawn, count_in_cod
 use Rattle.drawing.proofs.write_picture.Goals as goal
 
 pub slice_bounds-codes-end : goal.slice_bounds-codes-end
-slice_bounds-codes-end c = count_in_codes c.before.before.before.before.from_raster-merged.ensures
+slice_bounds-codes-end c = count_in_codes c.from_raster-merged.ensures
 
 pub slice_bounds-write_outlines-end : goal.slice_bounds-write_outlines-end
 slice_bounds-write_outlines-end c =
-    let merging = c.before.before.before.before.before.from_raster-merged in
+    let merging = c.from_raster-merged in
     omega (arith, length-take merging.result.count merging.new.1.1.0, count_in_codes merging.ensures)
 
 pub slice_bounds-levels-end : goal.slice_bounds-levels-end
-slice_bounds-levels-end c = count_in_levels c.before.before.before.before.before.from_raster-merged.ensures
+slice_bounds-levels-end c = count_in_levels c.from_raster-merged.ensures
 
 pub slice_bounds-write_outlines-end-2 : goal.slice_bounds-write_outlines-end-2
 slice_bounds-write_outlines-end-2 c =
-    let merging = c.before.before.before.before.before.before.from_raster-merged in
+    let merging = c.from_raster-merged in
     omega (arith, length-take merging.result.count merging.new.1.1.1.0, count_in_levels merging.ensures)
 
 pub slice_bounds-colours-end : goal.slice_bounds-colours-end
-slice_bounds-colours-end c = count_in_colours c.before.before.before.before.before.before.from_raster-merged.ensures
+slice_bounds-colours-end c = count_in_colours c.from_raster-merged.ensures
 
 pub slice_bounds-write_outlines-end-3 : goal.slice_bounds-write_outlines-end-3
 slice_bounds-write_outlines-end-3 c =
-    let merging = c.before.before.before.before.before.before.before.from_raster-merged in
+    let merging = c.from_raster-merged in
     omega (arith, length-take merging.result.count merging.new.1.1.1.1.0, count_in_colours merging.ensures)
 
 pub write_outlines-requires : goal.write_outlines-requires
 write_outlines-requires c =
-    let merged = c.before.before.before.before.before.before.before.before in
-    let start = merged.before.before.before.before.before.before in
-    let merging = merged.from_raster-merged in
-    let t = merged_traceable start.requires merging.ensures (omega arith) (omega arith) (omega arith) (omega (arith, merging.auto.1.1.0)) in
+    let merging = c.from_raster-merged in
+    let t = merged_traceable c.requires merging.ensures (omega arith) (omega arith) (omega arith) (omega (arith, merging.auto.1.1.0)) in
     record { low = t.low; few = t.few; accepted = omega (arith, t.accepted); enough = t.enough }
 
 pub returns : goal.returns
-returns c =
-    let merged = c.before.before.before.before.before.before.before.before.before.before.before in
-    let start = merged.before.before.before.before.before.before in
-    merged_drawn start.requires merged.from_raster-merged.ensures (omega arith) (omega arith) (omega arith) c.before.before.write_outlines.ensures
+returns c = merged_drawn c.requires c.from_raster-merged.ensures (omega arith) (omega arith) (omega arith) c.write_outlines.ensures

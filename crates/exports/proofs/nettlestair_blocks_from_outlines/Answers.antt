@@ -2,4 +2,4 @@
 use Rattle.exports.proofs.nettlestair_blocks_from_outlines.Goals as goal
 
 pub returns : goal.returns
-returns c = c.before.before.before.before.before.before.before.before.blocks_from_outlines-blocks.ensures
+returns c = c.blocks_from_outlines-blocks.ensures

@@ -2,4 +2,4 @@
 use Rattle.exports.proofs.nettlestair_blocks_from_raster.Goals as goal
 
 pub returns : goal.returns
-returns c = c.before.before.before.before.before.before.from_raster-merged.ensures
+returns c = c.from_raster-merged.ensures

@@ -2,4 +2,4 @@
 use Rattle.exports.proofs.nettlestair_check_order.Goals as goal
 
 pub returns : goal.returns
-returns c = c.before.before.before.before.check_order.ensures
+returns c = c.check_order.ensures

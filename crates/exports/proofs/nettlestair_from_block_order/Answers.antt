@@ -2,4 +2,4 @@
 use Rattle.exports.proofs.nettlestair_from_block_order.Goals as goal
 
 pub returns : goal.returns
-returns c = c.before.before.from_block_order-restored.ensures
+returns c = c.from_block_order-restored.ensures

@@ -2,4 +2,4 @@
 use Rattle.exports.proofs.nettlestair_least_order.Goals as goal
 
 pub returns : goal.returns
-returns c = c.before.before.before.before.before.before.least_order-least.ensures
+returns c = c.least_order-least.ensures

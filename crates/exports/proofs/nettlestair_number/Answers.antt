@@ -2,4 +2,4 @@
 use Rattle.exports.proofs.nettlestair_number.Goals as goal
 
 pub returns : goal.returns
-returns c = c.before.before.before.before.number-numbered.ensures
+returns c = c.number-numbered.ensures

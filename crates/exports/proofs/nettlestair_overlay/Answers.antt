@@ -2,4 +2,4 @@
 use Rattle.exports.proofs.nettlestair_overlay.Goals as goal
 
 pub returns : goal.returns
-returns c = c.before.before.before.before.before.before.overlay-laid.ensures
+returns c = c.overlay-laid.ensures

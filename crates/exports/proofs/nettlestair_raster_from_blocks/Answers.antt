@@ -2,4 +2,4 @@
 use Rattle.exports.proofs.nettlestair_raster_from_blocks.Goals as goal
 
 pub returns : goal.returns
-returns c = c.before.before.to_raster-painted.ensures
+returns c = c.to_raster-painted.ensures

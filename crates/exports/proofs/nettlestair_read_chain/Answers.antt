@@ -2,4 +2,4 @@
 use Rattle.exports.proofs.nettlestair_read_chain.Goals as goal
 
 pub returns : goal.returns
-returns c = c.before.before.read_chain-read.ensures
+returns c = c.read_chain-read.ensures

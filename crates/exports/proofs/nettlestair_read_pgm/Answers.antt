@@ -2,4 +2,4 @@
 use Rattle.exports.proofs.nettlestair_read_pgm.Goals as goal
 
 pub returns : goal.returns
-returns c = c.before.before.read-found.ensures
+returns c = c.read-found.ensures

@@ -2,4 +2,4 @@
 use Rattle.exports.proofs.nettlestair_svg.Goals as goal
 
 pub returns : goal.returns
-returns c = c.before.before.svg-drawn.ensures
+returns c = c.svg-drawn.ensures

@@ -2,4 +2,4 @@
 use Rattle.exports.proofs.nettlestair_to_block_order.Goals as goal
 
 pub returns : goal.returns
-returns c = c.before.before.to_block_order-ordered.ensures
+returns c = c.to_block_order-ordered.ensures

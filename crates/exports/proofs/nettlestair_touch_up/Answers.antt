@@ -2,4 +2,4 @@
 use Rattle.exports.proofs.nettlestair_touch_up.Goals as goal
 
 pub returns : goal.returns
-returns c = c.before.before.before.before.before.before.touch_up-touched.ensures
+returns c = c.touch_up-touched.ensures

@@ -2,4 +2,4 @@
 use Rattle.exports.proofs.nettlestair_trace.Goals as goal
 
 pub returns : goal.returns
-returns c = c.before.before.before.before.before.before.before.before.before.before.before.trace-traced.ensures
+returns c = c.trace-traced.ensures

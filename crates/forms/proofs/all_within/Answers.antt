@@ -10,20 +10,18 @@ loop-i-init c = (search rules, refl)
 
 pub returns-then-not-within : goal.returns-then-not-within
 returns-then-not-within c =
-    let turn = c.before.before.before in
-    let cs = turn.before.before.before.args.corners.now in
-    let outside = sym c.before.within.ensures ∙ c.if-not-within.true in
-    sym (sym turn.before.loop-i.invariant.1 ∙ inside_off cs turn.before.loop-i.i turn.loop-i-test.true outside)
+    let cs = c.args.corners.now in
+    let outside = sym c.within.ensures ∙ c.if-not-within.true in
+    sym (sym c.loop-i.invariant.1 ∙ inside_off cs c.loop-i.i c.loop-i-test.true outside)
 
 pub loop-i-smaller : goal.loop-i-smaller
 loop-i-smaller c = omega arith
 
 pub loop-i-preserved : goal.loop-i-preserved
 loop-i-preserved c =
-    let turn = c.before.before.before in
-    let cs = turn.before.before.before.args.corners.now in
-    let inside = sym c.before.within.ensures ∙ c.if-not-within.false in
-    (omega arith, inside_on cs turn.before.loop-i.i turn.loop-i-test.true inside ∙ turn.before.loop-i.invariant.1)
+    let cs = c.args.corners.now in
+    let inside = sym c.within.ensures ∙ c.if-not-within.false in
+    (omega arith, inside_on cs c.loop-i.i c.loop-i-test.true inside ∙ c.loop-i.invariant.1)
 
 pub returns : goal.returns
-returns c = sym (sym c.before.loop-i.invariant.1 ∙ inside-done c.before.before.before.args.corners.now c.before.loop-i.i c.loop-i-test.false)
+returns c = sym (sym c.loop-i.invariant.1 ∙ inside-done c.args.corners.now c.loop-i.i c.loop-i-test.false)

@@ -7,11 +7,11 @@ use Rattle.headers.proofs.field.Goals as goal
 
 pub returns-in_default : goal.returns-in_default
 unfolding field_over
-returns-in_default c = record { says = sym (past-bad c.before.before.spaces.ensures c.in_default.is _); inside = omega arith }
+returns-in_default c = record { says = sym (past-bad c.spaces.ensures c.in_default.is _); inside = omega arith }
 
 pub parse-requires : goal.parse-requires
-parse-requires c = past-inside c.before.before.before.spaces.ensures c.before.in-At.is
+parse-requires c = past-inside c.spaces.ensures c.in-At.is
 
 pub returns : goal.returns
 unfolding field_over
-returns c = rw (past_on c.before.before.before.before.spaces.ensures c.before.before.in-At.is) c.parse.ensures
+returns c = rw (past_on c.spaces.ensures c.in-At.is) c.parse.ensures

@@ -7,8 +7,8 @@ use Rattle.headers.proofs.magic.Goals as goal
 
 pub returns-in_default : goal.returns-in_default
 unfolding magic
-returns-in_default c = record { says = sym (past-bad c.before.before.exact.ensures c.in_default.is _); inside = omega arith }
+returns-in_default c = record { says = sym (past-bad c.exact.ensures c.in_default.is _); inside = omega arith }
 
 pub returns : goal.returns
 unfolding magic
-returns c = rw (past_on c.before.before.before.before.exact.ensures c.before.before.in-At.is) c.exact-2.ensures
+returns c = rw (past_on c.exact.ensures c.in-At.is) c.exact-2.ensures

@@ -4,10 +4,10 @@ use Rattle.interleaving.specs.Spreading.{code_from_spreads, spread-below}
 use Rattle.interleaving.proofs.code8.Goals as goal
 
 pub overflow_mul-result : goal.overflow_mul-result
-overflow_mul-result c = let a = c.before.before.args in omega (arith, spread-below 8 a.x, spread-below 8 a.y)
+overflow_mul-result c = let a = c.args in omega (arith, spread-below 8 a.x, spread-below 8 a.y)
 
 pub overflow_add-result : goal.overflow_add-result
-overflow_add-result c = let a = c.before.before.args in omega (arith, spread-below 8 a.x, spread-below 8 a.y)
+overflow_add-result c = let a = c.args in omega (arith, spread-below 8 a.x, spread-below 8 a.y)
 
 pub returns : goal.returns
-returns c = let a = c.before.before.args in omega (arith, code_from_spreads 8 a.x a.y)
+returns c = let a = c.args in omega (arith, code_from_spreads 8 a.x a.y)

@@ -14,7 +14,7 @@ pub overflow_mul-result : goal.overflow_mul-result
 overflow_mul-result c = omega (arith, fits _ _ c.code8-2.ensures)
 
 pub overflow_add-result : goal.overflow_add-result
-overflow_add-result c = omega (arith, fits _ _ c.before.code8.ensures, fits _ _ c.code8-2.ensures)
+overflow_add-result c = omega (arith, fits _ _ c.code8.ensures, fits _ _ c.code8-2.ensures)
 
 pub returns : goal.returns
-returns c = let a = c.before.before.args in omega (arith, code_of_bytes a.x a.y)
+returns c = let a = c.args in omega (arith, code_of_bytes a.x a.y)

@@ -6,5 +6,5 @@ use Rattle.interleaving.proofs.parted.Goals as goal
 
 pub returns : goal.returns
 returns c =
-    let d = c.before.args.c in
+    let d = c.args.c in
     rw c.fours.ensures (groups_of_four_joined (column 8 d) (row 8 d) (column-below 8 d) (row_below 8 d))

@@ -4,9 +4,7 @@ use Rattle.interleaving.specs.Spreading.{entry_is_spread, spread-below}
 use Rattle.interleaving.proofs.spread_of.Goals as goal
 
 pub overflow_cast-result : goal.overflow_cast-result
-overflow_cast-result c =
-    let a = c.before in
-    omega (arith, entry_is_spread a.args.table.now a.requires.0 a.args.i a.requires.1, spread-below 8 a.args.i)
+overflow_cast-result c = omega (arith, entry_is_spread c.args.table.now c.requires.0 c.args.i c.requires.1, spread-below 8 c.args.i)
 
 pub returns : goal.returns
-returns c = let a = c.before in entry_is_spread a.args.table.now a.requires.0 a.args.i a.requires.1
+returns c = entry_is_spread c.args.table.now c.requires.0 c.args.i c.requires.1

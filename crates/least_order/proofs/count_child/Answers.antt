@@ -2,11 +2,6 @@
 use native.Mathlib.Omega.{arith}
 use Rattle.least_order.specs.Counts.{parent_place, root_counted, count-place, child_counted}
 use Rattle.least_order.proofs.count_child.Goals as goal
-use Rattle.least_order.proofs.count_child.Tie as tie
-
--- The call, from where a parent is known.
-abbrev entry : tie.Else-up-eq0 → tie.Start
-entry c = c.before.before
 
 pub overflow_add-up : goal.overflow_add-up
 overflow_add-up c = omega (arith, parent_place c.requires, c.requires.small)
@@ -15,25 +10,25 @@ pub offset_bounds-work-whole : goal.offset_bounds-work-whole
 offset_bounds-work-whole c = omega (arith, parent_place c.requires, c.requires.small)
 
 pub bounds-work-whole : goal.bounds-work-whole
-bounds-work-whole c = (parent_place c.before.requires).0
+bounds-work-whole c = (parent_place c.requires).0
 
 pub returns-then-up-eq0 : goal.returns-then-up-eq0
-returns-then-up-eq0 c = root_counted c.before.before.requires c.if-up-eq0.true
+returns-then-up-eq0 c = root_counted c.requires c.if-up-eq0.true
 
 pub overflow_cast-work : goal.overflow_cast-work
-overflow_cast-work c = omega (arith, count-place (entry c).requires c.if-up-eq0.false, parent_place (entry c).requires, (entry c).requires.small)
+overflow_cast-work c = omega (arith, count-place c.requires c.if-up-eq0.false, parent_place c.requires, c.requires.small)
 
 pub offset_bounds-work-up : goal.offset_bounds-work-up
-offset_bounds-work-up c = omega (arith, count-place (entry c).requires c.if-up-eq0.false, parent_place (entry c).requires, (entry c).requires.small)
+offset_bounds-work-up c = omega (arith, count-place c.requires c.if-up-eq0.false, parent_place c.requires, c.requires.small)
 
 pub bounds-work-up : goal.bounds-work-up
-bounds-work-up c = (count-place (entry c.before).requires c.before.if-up-eq0.false).1
+bounds-work-up c = (count-place c.requires c.if-up-eq0.false).1
 
 pub overflow_add-work : goal.overflow_add-work
-overflow_add-work c = omega (arith, (count-place (entry c.before).requires c.before.if-up-eq0.false).2)
+overflow_add-work c = omega (arith, (count-place c.requires c.if-up-eq0.false).2)
 
 pub bounds-work-up-2 : goal.bounds-work-up-2
-bounds-work-up-2 c = (count-place (entry c.before).requires c.before.if-up-eq0.false).1
+bounds-work-up-2 c = (count-place c.requires c.if-up-eq0.false).1
 
 pub returns : goal.returns
-returns c = child_counted (entry c.before).requires c.before.if-up-eq0.false
+returns c = child_counted c.requires c.if-up-eq0.false

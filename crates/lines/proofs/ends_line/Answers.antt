@@ -7,4 +7,4 @@ pub returns-then-cycles-k : goal.returns-then-cycles-k
 returns-then-cycles-k c = line_at_end _ _ _ (omega (arith, c.if-cycles-k.true))
 
 pub returns : goal.returns
-returns c = line_by_owners _ _ _ c.before.before.if-cycles-k.false
+returns c = line_by_owners _ _ _ c.if-cycles-k.false

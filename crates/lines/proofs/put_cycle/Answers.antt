@@ -4,25 +4,13 @@ use Rattle.lines.specs.Writing.{end_room, put_plain, put_ended}
 use Rattle.lines.proofs.put_cycle.Goals as goal
 
 pub bounds-text-n : goal.bounds-text-n
-bounds-text-n c =
-    let called = c.before.before.before.before in
-    let start = called.before.before.before.before in
-    omega (arith, end_room start.requires called.svg-written.ensures, called.svg-written.auto.1.0)
+bounds-text-n c = omega (arith, end_room c.requires c.svg-written.ensures, c.svg-written.auto.1.0)
 
 pub overflow_add-result : goal.overflow_add-result
-overflow_add-result c =
-    let called = c.before.before.before.before in
-    let start = called.before.before.before.before in
-    omega (arith, end_room start.requires called.svg-written.ensures, start.well-formed)
+overflow_add-result c = omega (arith, end_room c.requires c.svg-written.ensures, c.well-formed)
 
 pub returns-then-last : goal.returns-then-last
-returns-then-last c =
-    let called = c.before.before.before.before in
-    let start = called.before.before.before.before in
-    put_ended start.requires called.svg-written.ensures c.if-last.true
+returns-then-last c = put_ended c.requires c.svg-written.ensures c.if-last.true
 
 pub returns : goal.returns
-returns c =
-    let called = c.before.before.before.before in
-    let start = called.before.before.before.before in
-    put_plain start.requires called.svg-written.ensures c.if-last.false
+returns c = put_plain c.requires c.svg-written.ensures c.if-last.false

@@ -7,19 +7,19 @@ use Rattle.interleaving.specs.Splitting.{column_split, column_wider}
 use Rattle.location.proofs.column.Goals as goal
 
 pub overflow_cast-result : goal.overflow_cast-result
-overflow_cast-result c = omega (arith, column-below 8 c.before.before.args.c)
+overflow_cast-result c = omega (arith, column-below 8 c.args.c)
 
 pub returns-then-c-lt65536 : goal.returns-then-c-lt65536
-returns-then-c-lt65536 c = omega (arith, column_wider 8 16 c.before.before.args.c (omega arith) c.before.if-c-lt65536.true)
+returns-then-c-lt65536 c = omega (arith, column_wider 8 16 c.args.c (omega arith) c.if-c-lt65536.true)
 
 pub overflow_mul-result : goal.overflow_mul-result
-overflow_mul-result c = omega (arith, column-below 8 (c.before.before.before.args.c / 65536))
+overflow_mul-result c = omega (arith, column-below 8 (c.args.c / 65536))
 
 pub overflow_add-result : goal.overflow_add-result
-overflow_add-result c = omega (arith, column-below 8 c.before.before.before.args.c, column-below 8 (c.before.before.before.args.c / 65536))
+overflow_add-result c = omega (arith, column-below 8 c.args.c, column-below 8 (c.args.c / 65536))
 
 pub overflow_cast-result-2 : goal.overflow_cast-result-2
-overflow_cast-result-2 c = omega (arith, column-below 8 c.before.before.before.args.c, column-below 8 (c.before.before.before.args.c / 65536))
+overflow_cast-result-2 c = omega (arith, column-below 8 c.args.c, column-below 8 (c.args.c / 65536))
 
 pub returns : goal.returns
-returns c = omega (arith, column_split 8 8 c.before.before.before.args.c)
+returns c = omega (arith, column_split 8 8 c.args.c)

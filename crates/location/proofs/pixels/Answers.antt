@@ -10,8 +10,8 @@ use Rattle.location.proofs.pixels.Goals as goal
 
 pub returns-then-l-lt32 : goal.returns-then-l-lt32
 returns-then-l-lt32 c =
-    let l = c.before.args.l in
+    let l = c.args.l in
     shl_exact {a = 1} 1 (2 * l) 64 (omega arith) (omega arith) ∙ one-mul (2 ^ (2 * l)) ∙ pow2_double l ∙ sym (pixels_are_power l (omega arith))
 
 pub returns-else-l-lt32 : goal.returns-else-l-lt32
-returns-else-l-lt32 c = sym (pixels_above c.before.args.l (omega arith))
+returns-else-l-lt32 c = sym (pixels_above c.args.l (omega arith))

@@ -8,7 +8,7 @@ use Rattle.location.specs.Levels.{side_is_power, side_above_lem}
 use Rattle.location.proofs.side.Goals as goal
 
 pub returns-then-l-lt64 : goal.returns-then-l-lt64
-returns-then-l-lt64 c = let l = c.before.args.l in shl_exact {a = 1} 1 l 64 (omega arith) (omega arith) ∙ one-mul (2 ^ l) ∙ sym (side_is_power l (omega arith))
+returns-then-l-lt64 c = let l = c.args.l in shl_exact {a = 1} 1 l 64 (omega arith) (omega arith) ∙ one-mul (2 ^ l) ∙ sym (side_is_power l (omega arith))
 
 pub returns-else-l-lt64 : goal.returns-else-l-lt64
-returns-else-l-lt64 c = sym (side_above_lem c.before.args.l (omega arith))
+returns-else-l-lt64 c = sym (side_above_lem c.args.l (omega arith))

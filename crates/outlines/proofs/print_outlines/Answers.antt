@@ -1,5 +1,7 @@
 -- The lists are handed on, and the run is one for this order.
 use Rattle.outlines.proofs.print_outlines.Goals as goal
 
+-- no goal: slice-aggregate-run
+
 pub returns : goal.returns
-returns c = c.before.before.before.before.run.ensures
+returns c = c.run.ensures

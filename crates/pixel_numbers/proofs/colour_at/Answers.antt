@@ -1,36 +1,31 @@
 -- `colour_at` meets its contract: the entry of the map is 1 plus the number of the pixel, and there is a colour for it.
 use native.Mathlib.Omega.{arith}
-use Rattle.pixel_numbers.specs.Neighbours.{Entry, entry}
+use Rattle.pixel_numbers.specs.Neighbours.{entry}
 use Rattle.pixel_numbers.proofs.colour_at.Goals as goal
-use Rattle.pixel_numbers.proofs.colour_at.Tie as tie
-
--- The entry of the pixel.
-read : (c : tie.After-side) → let a = c.before.before.before.args in Entry a.n a.colours.now a.work.now a.x a.y c.side.result
-read c = entry c.before.before.before.requires c.side.ensures
 
 pub overflow_mul-number : goal.overflow_mul-number
-overflow_mul-number c = omega (arith, (read c).low)
+overflow_mul-number c = omega (arith, (entry c.requires c.side.ensures).low)
 
 pub overflow_add-number : goal.overflow_add-number
-overflow_add-number c = omega (arith, (read c).low)
+overflow_add-number c = omega (arith, (entry c.requires c.side.ensures).low)
 
 pub offset_bounds-work-y : goal.offset_bounds-work-y
-offset_bounds-work-y c = omega (arith, (read c).low)
+offset_bounds-work-y c = omega (arith, (entry c.requires c.side.ensures).low)
 
 pub bounds-work-y : goal.bounds-work-y
-bounds-work-y c = (read c.before).inside
+bounds-work-y c = (entry c.requires c.side.ensures).inside
 
 pub overflow_sub-number : goal.overflow_sub-number
-overflow_sub-number c = omega (arith, (read c.before).some)
+overflow_sub-number c = omega (arith, (entry c.requires c.side.ensures).some)
 
 pub overflow_cast-result : goal.overflow_cast-result
-overflow_cast-result c = let e = read c.before in omega (arith, e.known, e.few)
+overflow_cast-result c = let e = (entry c.requires c.side.ensures) in omega (arith, e.known, e.few)
 
 pub offset_bounds-colours-number : goal.offset_bounds-colours-number
-offset_bounds-colours-number c = let e = read c.before in omega (arith, e.known, e.few)
+offset_bounds-colours-number c = let e = (entry c.requires c.side.ensures) in omega (arith, e.known, e.few)
 
 pub bounds-colours-number : goal.bounds-colours-number
-bounds-colours-number c = let e = read c.before.before in omega (arith, e.some, e.known)
+bounds-colours-number c = let e = (entry c.requires c.side.ensures) in omega (arith, e.some, e.known)
 
 pub returns : goal.returns
-returns c = (read c.before.before).colour
+returns c = (entry c.requires c.side.ensures).colour

@@ -6,9 +6,8 @@ use Rattle.program.proofs.answer.Goals as goal
 
 pub returns : goal.returns
 returns c =
-    let called = c.before.before.before in
-    let large = called.before.before.before.before.before.requires.1 in
-    let p = called.print-printed.ensures in (
+    let large = c.requires.1 in
+    let p = c.print-printed.ensures in (
       whole_text_put p large,
-      (count_within p, omega (arith, count_within p, length-take called.print-printed.result.count called.print-printed.new.1.1.0)),
+      (count_within p, omega (arith, count_within p, length-take c.print-printed.result.count c.print-printed.new.1.1.0)),
     )

@@ -3,12 +3,10 @@ use Rattle.program.proofs.run.Goals as goal
 
 pub returns-then-not-write_all : goal.returns-then-not-write_all
 returns-then-not-write_all c =
-    let answered = c.before.before.before.before.before.before in
-    let read = answered.before.before.before.before.before.read_full-read in
-    record { read = read.result; inside = read.ensures.0; in_text = answered.answer-count.ensures.0.list }
+    let read = c.read_full-read in
+    record { read = read.result; inside = read.ensures.0; in_text = c.answer-count.ensures.0.list }
 
 pub returns-else-not-write_all : goal.returns-else-not-write_all
 returns-else-not-write_all c =
-    let answered = c.before.before.before.before.before in
-    let read = answered.before.before.before.before.before.read_full-read in
-    record { read = read.result; inside = read.ensures.0; in_text = answered.answer-count.ensures.0.list }
+    let read = c.read_full-read in
+    record { read = read.result; inside = read.ensures.0; in_text = c.answer-count.ensures.0.list }

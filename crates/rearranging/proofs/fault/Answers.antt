@@ -1,30 +1,18 @@
 -- The tests stand in the order 1, 9, 8.
-use mathlib.Core.Path.{◌≡◌, sym, ◌∙◌}
-use Prim.Native.Nat.{◌^◌}
+use mathlib.Core.Path.{sym, ◌∙◌}
 use native.Mathlib.Omega.{arith}
 use Rattle.location.specs.Levels.{pixels_are_power}
 use Rattle.rearranging.specs.Promise.{rearrange_large, rearrange_unlike, rearrange_short, rearrange_accepted}
 use Rattle.rearranging.proofs.fault.Goals as goal
-use Rattle.rearranging.proofs.fault.Tie as tie
-
--- Where n is at most 8: the number of pixels.
-whole : (c : tie.After-pixels-whole) → c.pixels-whole.result ≡ 4 ^ c.before.before.args.n
-whole c = c.pixels-whole.ensures ∙ pixels_are_power c.before.before.args.n (omega (arith, c.before.if-n-gt8.false))
 
 pub returns-then-n-gt8 : goal.returns-then-n-gt8
 returns-then-n-gt8 c = sym (rearrange_large _ _ _ c.if-n-gt8.true)
 
 pub returns-then-source-whole : goal.returns-then-source-whole
-returns-then-source-whole c =
-    let counted = c.before in
-    sym (rearrange_unlike _ _ _ counted.before.if-n-gt8.false (λ e. c.if-source-whole.true (e ∙ sym (whole counted))))
+returns-then-source-whole c = sym (rearrange_unlike _ _ _ c.if-n-gt8.false (λ e. c.if-source-whole.true (e ∙ sym (c.pixels-whole.ensures ∙ pixels_are_power c.args.n (omega (arith, c.if-n-gt8.false))))))
 
 pub returns-then-target-whole : goal.returns-then-target-whole
-returns-then-target-whole c =
-    let counted = c.before.before in
-    sym (rearrange_short _ _ _ counted.before.if-n-gt8.false (c.before.if-source-whole.false ∙ whole counted) (omega (arith, c.if-target-whole.true, whole counted)))
+returns-then-target-whole c = sym (rearrange_short _ _ _ c.if-n-gt8.false (c.if-source-whole.false ∙ (c.pixels-whole.ensures ∙ pixels_are_power c.args.n (omega (arith, c.if-n-gt8.false)))) (omega (arith, c.if-target-whole.true, (c.pixels-whole.ensures ∙ pixels_are_power c.args.n (omega (arith, c.if-n-gt8.false))))))
 
 pub returns : goal.returns
-returns c =
-    let counted = c.before.before in
-    sym (rearrange_accepted _ _ _ counted.before.if-n-gt8.false (c.before.if-source-whole.false ∙ whole counted) (omega (arith, c.if-target-whole.false, whole counted)))
+returns c = sym (rearrange_accepted _ _ _ c.if-n-gt8.false (c.if-source-whole.false ∙ (c.pixels-whole.ensures ∙ pixels_are_power c.args.n (omega (arith, c.if-n-gt8.false)))) (omega (arith, c.if-target-whole.false, (c.pixels-whole.ensures ∙ pixels_are_power c.args.n (omega (arith, c.if-n-gt8.false))))))

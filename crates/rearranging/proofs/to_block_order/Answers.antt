@@ -6,17 +6,13 @@ use Rattle.rearranging.specs.Promise.{fits, at_most_65536, rearrange_refused, re
 use Rattle.rearranging.proofs.to_block_order.Goals as goal
 
 pub returns-then-number-ne0 : goal.returns-then-number-ne0
-returns-then-number-ne0 c = rearrange_refused to_block_order c.before.before.fault-number.ensures c.before.if-number-ne0.true c.refusal.ensures
+returns-then-number-ne0 c = rearrange_refused to_block_order c.fault-number.ensures c.if-number-ne0.true c.refusal.ensures
 
 pub all_rows-requires : goal.all_rows-requires
-all_rows-requires c = fits (sym c.before.before.fault-number.ensures ∙ c.before.if-number-ne0.false)
+all_rows-requires c = fits (sym c.fault-number.ensures ∙ c.if-number-ne0.false)
 
 pub overflow_cast-count : goal.overflow_cast-count
-overflow_cast-count c =
-    let passed = c.before.before.before.before.before in
-    omega (arith, at_most_65536 (fits (sym passed.before.fault-number.ensures ∙ passed.if-number-ne0.false)) c.pixels-count.ensures)
+overflow_cast-count c = omega (arith, at_most_65536 (fits (sym c.fault-number.ensures ∙ c.if-number-ne0.false)) c.pixels-count.ensures)
 
 pub returns : goal.returns
-returns c =
-    let passed = c.before.before.before.before.before in
-    rearrange_done to_block_order passed.before.fault-number.ensures passed.if-number-ne0.false c.pixels-count.ensures c.before.before.before.all_rows.ensures
+returns c = rearrange_done to_block_order c.fault-number.ensures c.if-number-ne0.false c.pixels-count.ensures c.all_rows.ensures

@@ -11,4 +11,4 @@ code8-requires c = c.requires
 
 pub returns : goal.returns
 unfolding x_of y_of rank
-returns c = ap (λ (v : ℕ). 65536 * c.before.args.owner + v) c.code8.ensures
+returns c = ap (λ (v : ℕ). 65536 * c.args.owner + v) c.code8.ensures

@@ -12,15 +12,12 @@ pub loop-i-init : goal.loop-i-init
 loop-i-init c = copy_none
 
 pub loop-i-preserved : goal.loop-i-preserved
-loop-i-preserved c =
-    let b = c.before.before in
-    copy_next 0 b.loop-i.invariant c.before.loop-i-test.true (omega (arith, b.before.requires)) (omega (arith, b.before.requires))
+loop-i-preserved c = copy_next 0 c.loop-i.invariant c.loop-i-test.true (omega (arith, c.requires)) (omega (arith, c.requires))
 
 pub returns : goal.returns
 unfolding in_sixteen
 returns c =
-    let b = c.before.before in
-    let left : List ℕ = drop b.args.handed b.args.stretch.now in
-    let all : take b.args.count left ≡ take 16 left =
-    take_min 16 b.args.count left (omega (arith, b.requires, length-drop b.args.handed b.args.stretch.now)) in
-    copied_all c.before.loop-i.invariant c.loop-i-test.false ∙ ap (λ (l : List ℕ). over l (replicate 16 0)) all
+    let left : List ℕ = drop c.args.handed c.args.stretch.now in
+    let all : take c.args.count left ≡ take 16 left =
+    take_min 16 c.args.count left (omega (arith, c.requires, length-drop c.args.handed c.args.stretch.now)) in
+    copied_all c.loop-i.invariant c.loop-i-test.false ∙ ap (λ (l : List ℕ). over l (replicate 16 0)) all

@@ -4,4 +4,4 @@ use Rattle.serving.specs.Places.{seven_moved_up}
 use Rattle.serving.proofs.moved_up.Goals as goal
 
 pub returns : goal.returns
-returns c = let b = c.before.before.before.before.before.before.before in seven_moved_up b.args.t1 (omega (arith, b.well-formed.0))
+returns c = seven_moved_up c.args.t1 (omega (arith, c.well-formed.0))

@@ -1,5 +1,5 @@
 -- Each test is the definition's, in its order; the queue is what stands in the first places.
-use mathlib.Core.Path.{◌≡◌, sym, ap, ◌∙◌}
+use mathlib.Core.Path.{sym, ap, ◌∙◌}
 use mathlib.Core.List.{List, ◌∷◌, ◌++◌}
 use Prim.Native.Nat.{min}
 use native.Mathlib.Omega.{arith}
@@ -9,48 +9,33 @@ use Rattle.serving.specs.Queue.{is_open, joined, not-below, already_open, eight_
 use Rattle.serving.specs.States.{queue_of, in_eight, holds_queue}
 use Rattle.serving.specs.Promise.{refuses, accepts}
 use Rattle.serving.proofs.open_cycle.Goals as goal
-use Rattle.serving.proofs.open_cycle.Tie as tie
-
--- What the search found.
-looked : (c : tie.After-is_open) → let a = c.before.before.before.before.args in is_open a.cycle (queue_of a.state) ≡ c.is_open.result
-unfolding queue_of
-looked c =
-    let a = c.before.before.before.before.args in
-    ap (λ j. is_open a.cycle (take j a.state.outlines)) (sym c.before.open_count-size.ensures) ∙ sym c.is_open.ensures.0
-
--- How many are open.
-sized : (c : tie.After-is_open) → length (queue_of c.before.before.before.before.args.state) ≡ c.before.open_count-size.result
-unfolding queue_of
-sized c =
-    let a = c.before.before.before.before.args in
-    omega (arith, c.before.open_count-size.ensures, c.is_open.ensures.1, length-take (min 8 a.state.length) a.state.outlines)
 
 pub returns-then-count-cycle : goal.returns-then-count-cycle
-returns-then-count-cycle c = let a = c.before.args in refuses a.state a.cycle a.count 21 (not-below (queue_of a.state) a.cycle a.count c.if-count-cycle.true)
+returns-then-count-cycle c = let a = c.args in refuses a.state a.cycle a.count 21 (not-below (queue_of a.state) a.cycle a.count c.if-count-cycle.true)
 
 pub returns-then-is_open : goal.returns-then-is_open
+unfolding queue_of
 returns-then-is_open c =
-    let a = c.before.before.before.before.before.args in
+    let a = c.args in
     refuses a.state a.cycle a.count 22
-    (already_open (queue_of a.state) a.cycle a.count c.before.before.before.before.if-count-cycle.false (looked c.before ∙ c.if-is_open.true))
+    (already_open (queue_of a.state) a.cycle a.count c.if-count-cycle.false ((let a = c.args in ap (λ j. is_open a.cycle (take j a.state.outlines)) (sym c.open_count-size.ensures) ∙ sym c.is_open.ensures.0) ∙ c.if-is_open.true))
 
 pub returns-then-size-ge8 : goal.returns-then-size-ge8
+unfolding queue_of
 returns-then-size-ge8 c =
-    let i = c.before.before in
-    let a = c.before.before.before.before.before.before.args in
+    let a = c.args in
     refuses a.state a.cycle a.count 23
-    (eight_open (queue_of a.state) a.cycle a.count c.before.before.before.before.before.if-count-cycle.false (looked i ∙ c.before.if-is_open.false)
-    (omega (arith, sized i, c.if-size-ge8.true)))
+    (eight_open (queue_of a.state) a.cycle a.count c.if-count-cycle.false ((let a = c.args in ap (λ j. is_open a.cycle (take j a.state.outlines)) (sym c.open_count-size.ensures) ∙ sym c.is_open.ensures.0) ∙ c.if-is_open.false)
+    (omega (arith, (let a = c.args in omega (arith, c.open_count-size.ensures, c.is_open.ensures.1, length-take (min 8 a.state.length) a.state.outlines)), c.if-size-ge8.true)))
 
 pub returns : goal.returns
 unfolding queue_of joined
 returns c =
-    let i = c.before.before.before in
-    let a = c.before.before.before.before.before.before.before.args in
+    let a = c.args in
     let q : List OpenOutline = queue_of a.state in
     let new : OpenOutline = record { cycle = a.cycle; handed = 0 } in
-    let kept = c.with_last.ensures ∙ ap (λ j. in_eight (take j a.state.outlines ++ new ∷ [])) i.before.open_count-size.ensures in
+    let kept = c.with_last.ensures ∙ ap (λ j. in_eight (take j a.state.outlines ++ new ∷ [])) c.open_count-size.ensures in
     accepts a.state a.cycle a.count _
-    (may_open q a.cycle a.count c.before.before.before.before.before.before.if-count-cycle.false (looked i ∙ c.before.before.if-is_open.false)
-    (omega (arith, sized i, c.before.if-size-ge8.false)))
-    (holds_queue (q ++ new ∷ []) kept (omega (arith, sized i, length-append q (new ∷ []))))
+    (may_open q a.cycle a.count c.if-count-cycle.false ((let a = c.args in ap (λ j. is_open a.cycle (take j a.state.outlines)) (sym c.open_count-size.ensures) ∙ sym c.is_open.ensures.0) ∙ c.if-is_open.false)
+    (omega (arith, (let a = c.args in omega (arith, c.open_count-size.ensures, c.is_open.ensures.1, length-take (min 8 a.state.length) a.state.outlines)), c.if-size-ge8.false)))
+    (holds_queue (q ++ new ∷ []) kept (omega (arith, (let a = c.args in omega (arith, c.open_count-size.ensures, c.is_open.ensures.1, length-take (min 8 a.state.length) a.state.outlines)), length-append q (new ∷ []))))

@@ -4,7 +4,6 @@ use mathlib.Core.List.{List, ◌∷◌}
 use Prim.Native.Nat.{ℕ, ◌-◌, ◌<◌, min}
 use native.Mathlib.Omega.{arith}
 use lib.ListN.{length, take, drop}
-use Rattle.stretches.specs.Stretch.{stretch_of}
 use Rattle.serving.specs.declared.OpenOutline.{OpenOutline}
 use Rattle.serving.specs.Queue.{lists, stretch_in, due_of, corners_handed_out, after_serving}
 use Rattle.serving.specs.Bounds.{stretch_short}
@@ -12,51 +11,33 @@ use Rattle.serving.specs.States.{queue_of, front, state_of, in_sixteen, front-fi
 use Rattle.serving.specs.Promise.{none_open, none_is_open, front_is_served}
 use borrow.Author.Rules.{rules}
 use Rattle.serving.proofs.turn.Goals as goal
-use Rattle.serving.proofs.turn.Tie as tie
-
--- What is due of the front.
-due-is : (c : tie.After-still_due-due) → let a = c.before.before.before.before.before.before.before.before.args in
-    c.still_due-due.result ≡ length (stretch_of a.corners.now a.ends.now a.count (front a.state.outlines).cycle-stretch) - (front a.state.outlines).handed
-due-is c = let a = c.before.before.before.before.before.before.before.before.args in
-    c.still_due-due.ensures ∙ ap (λ (l : List ℕ). length l - (front a.state.outlines).handed) c.before.cycle-stretch.ensures.corners_are
-
--- It fits 32 bits.
-short : (c : tie.After-cycle-stretch) → let a = c.before.before.before.before.before.before.before.args in
-    length (stretch_of a.corners.now a.ends.now a.count (front a.state.outlines).cycle-stretch) < 4294967296
-short c =
-    let b = c.before.before.before.before.before.before in
-    let a = b.before.args in
-    let k : ℕ = (front a.state.outlines).cycle-stretch in
-    stretch_short a.corners.now a.ends.now a.count k (omega (arith, c.before.before.before.before.before.shared_slice_known-2-1.given k))
 
 pub returns-then-size-eq0 : goal.returns-then-size-eq0
 unfolding none_open in_sixteen queue_of
 returns-then-size-eq0 c =
-    let a = c.before.before.before.before.before.args in
+    let a = c.args in
     none_is_open a.state (lists a.corners.now a.ends.now a.count)
-    (ap (λ j. take j a.state.outlines) (sym c.before.open_count-size.ensures ∙ c.if-size-eq0.true))
+    (ap (λ j. take j a.state.outlines) (sym c.open_count-size.ensures ∙ c.if-size-eq0.true))
 
 pub after_serving-requires : goal.after_serving-requires
 after_serving-requires c =
-    let b = c.before.before.before.before.before.before in
-    let a = b.before.before.before.before.args in
-    (search rules, search rules, λ more. omega (arith, more, due-is c.before.before, short c.before.before.before))
+    let a = c.args in
+    (search rules, search rules, λ more. omega (arith, more, (let a = c.args in c.still_due-due.ensures ∙ ap (λ (l : List ℕ). length l - (front a.state.outlines).handed) c.cycle-stretch.ensures.corners_are), (let a = c.args in let k : ℕ = (front a.state.outlines).cycle-stretch in stretch_short a.corners.now a.ends.now a.count k (omega (arith, c.shared_slice_known-2-1.given k)))))
 
 pub returns : goal.returns
 unfolding queue_of due_of corners_handed_out stretch_in
 returns c =
-    let b = c.before.before.before.before.before.before.before in
-    let a = b.before.before.before.before.args in
+    let a = c.args in
     let o : OpenOutline = front a.state.outlines in
     let l = lists a.corners.now a.ends.now a.count in
-    let behind : List OpenOutline = take (b.open_count-size.result - 1) (drop 1 a.state.outlines) in
-    let due : c.before.before.before.still_due-due.result ≡ due_of l o = due-is c.before.before.before in
-    let some : 0 < b.open_count-size.result = omega (arith, c.before.before.before.before.before.before.if-size-eq0.false) in
+    let behind : List OpenOutline = take (c.open_count-size.result - 1) (drop 1 a.state.outlines) in
+    let due : c.still_due-due.result ≡ due_of l o = (let a = c.args in c.still_due-due.ensures ∙ ap (λ (l : List ℕ). length l - (front a.state.outlines).handed) c.cycle-stretch.ensures.corners_are) in
+    let some : 0 < c.open_count-size.result = omega (arith, c.if-size-eq0.false) in
     let open_now : queue_of a.state ≡ o ∷ behind =
-    ap (λ j. take j a.state.outlines) (sym b.open_count-size.ensures)
-    ∙ front-first a.state.outlines b.open_count-size.result some (omega (arith, c.after_serving.ensures.1)) in
+    ap (λ j. take j a.state.outlines) (sym c.open_count-size.ensures)
+    ∙ front-first a.state.outlines c.open_count-size.result some (omega (arith, c.after_serving.ensures.1)) in
     front_is_served a.state l open_now
-    (c.before.before.sixteen_at_most-given.ensures ∙ ap (min 16) due)
-    (c.before.hand_out.ensures
-    ∙ ap (λ (s : List ℕ). in_sixteen (take 16 (drop o.handed s))) c.before.before.before.before.cycle-stretch.ensures.corners_are)
+    (c.sixteen_at_most-given.ensures ∙ ap (min 16) due)
+    (c.hand_out.ensures
+    ∙ ap (λ (s : List ℕ). in_sixteen (take 16 (drop o.handed s))) c.cycle-stretch.ensures.corners_are)
     (c.after_serving.ensures.0 ∙ ap (λ (n : ℕ). state_of (after_serving n o behind)) due)

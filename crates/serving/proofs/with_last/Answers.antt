@@ -5,13 +5,12 @@ use Rattle.serving.proofs.with_last.Goals as goal
 
 pub returns : goal.returns
 returns c =
-    let b = c.before.before.before.before.before.before.before.before.before.before.before.before.before.before.before.before in
-    eight_seats b.args.t1 b.args.last b.args.count (omega (arith, b.well-formed.0)) b.requires
-    c.before.before.before.before.before.before.before.before.before.before.before.before.before.before.seat.ensures
-    c.before.before.before.before.before.before.before.before.before.before.before.before.seat-2.ensures
-    c.before.before.before.before.before.before.before.before.before.before.seat-3.ensures
-    c.before.before.before.before.before.before.before.before.seat-4.ensures
-    c.before.before.before.before.before.before.seat-5.ensures
-    c.before.before.before.before.seat-6.ensures
-    c.before.before.seat-7.ensures
+    eight_seats c.args.t1 c.args.last c.args.count (omega (arith, c.well-formed.0)) c.requires
+    c.seat.ensures
+    c.seat-2.ensures
+    c.seat-3.ensures
+    c.seat-4.ensures
+    c.seat-5.ensures
+    c.seat-6.ensures
+    c.seat-7.ensures
     c.seat-8.ensures

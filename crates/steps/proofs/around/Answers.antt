@@ -6,8 +6,6 @@ use Rattle.steps.proofs.around.Goals as goal
 
 pub returns : goal.returns
 returns c =
-    let column = c.before.before in
-    let f = column.before.before in
-    let m = map_at f.args.side f.args.map.now in
-    c.look.ensures ∙ ap₂ m column.«column-at».ensures c.before.«row_at».ensures
-    ∙ around-point m f.args.x f.args.y f.args.d f.requires.1
+    let m = map_at c.args.side c.args.map.now in
+    c.look.ensures ∙ ap₂ m c.«column-at».ensures c.«row_at».ensures
+    ∙ around-point m c.args.x c.args.y c.args.d c.requires.1

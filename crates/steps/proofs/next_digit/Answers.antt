@@ -6,26 +6,20 @@ use Rattle.steps.proofs.next_digit.Goals as goal
 
 pub returns-then-ahead_right-r : goal.returns-then-ahead_right-r
 returns-then-ahead_right-r c =
-    let right = c.before.before in
-    let f = right.before.before in
-    let a = f.args in
-    turns_right (map_at a.side a.map.now) a.r (point a.x a.y) f.requires.3 c.before.around-ahead_right.ensures
-    c.if-ahead_right-r.true right.right-right.ensures
+    let a = c.args in
+    turns_right (map_at a.side a.map.now) a.r (point a.x a.y) c.requires.3 c.around-ahead_right.ensures
+    c.if-ahead_right-r.true c.right-right.ensures
 
 pub returns-then-ahead_left-r : goal.returns-then-ahead_left-r
 unfolding left_of
 returns-then-ahead_left-r c =
-    let ahead = c.before.before.before in
-    let f = ahead.before.before.before in
-    let a = f.args in
-    goes_straight (map_at a.side a.map.now) a.r (point a.x a.y) f.requires.3 ahead.around-ahead_right.ensures
-    c.before.before.if-ahead_right-r.false c.before.around-ahead_left.ensures c.if-ahead_left-r.true
+    let a = c.args in
+    goes_straight (map_at a.side a.map.now) a.r (point a.x a.y) c.requires.3 c.around-ahead_right.ensures
+    c.if-ahead_right-r.false c.around-ahead_left.ensures c.if-ahead_left-r.true
 
 pub returns : goal.returns
 unfolding left_of
 returns c =
-    let ahead = c.before.before.before in
-    let f = ahead.before.before.before in
-    let a = f.args in
-    turns_left (map_at a.side a.map.now) a.r (point a.x a.y) f.requires.3 ahead.around-ahead_right.ensures
-    c.before.before.if-ahead_right-r.false c.before.around-ahead_left.ensures c.if-ahead_left-r.false
+    let a = c.args in
+    turns_left (map_at a.side a.map.now) a.r (point a.x a.y) c.requires.3 c.around-ahead_right.ensures
+    c.if-ahead_right-r.false c.around-ahead_left.ensures c.if-ahead_left-r.false

@@ -1,29 +1,20 @@
 -- The place lies within the corner list, so the part is the very stretch there.
 use mathlib.Core.Path.{refl}
-use Prim.Native.Nat.{◌+◌, ◌≤◌}
 use native.Mathlib.Omega.{arith}
 use lib.ListN.{length}
 use Rattle.stretches.specs.Stretch.{stretch_fits, part_at}
 use Rattle.stretches.proofs.cycle.Goals as goal
-use Rattle.stretches.proofs.cycle.Tie as tie
-
--- The end of the place.
-fits : (c : tie.After-cycle_place-place) → let p = c.cycle_place-place.result in p.start + p.length ≤ length c.before.before.before.args.corners.now
-fits c =
-    let a = c.before.before.before.args in
-    let p = c.cycle_place-place.ensures in
-    omega (arith, p.start_is, p.length_is, stretch_fits (length a.corners.now) a.ends.now a.count a.k)
 
 pub overflow_add-e : goal.overflow_add-e
-overflow_add-e c = omega (arith, fits c.before)
+overflow_add-e c = omega (arith, (let a = c.args in let p = c.cycle_place-place.ensures in omega (arith, p.start_is, p.length_is, stretch_fits (length a.corners.now) a.ends.now a.count a.k)))
 
 pub offset_bounds-corners-a : goal.offset_bounds-corners-a
-offset_bounds-corners-a c = omega (arith, fits c.before)
+offset_bounds-corners-a c = omega (arith, (let a = c.args in let p = c.cycle_place-place.ensures in omega (arith, p.start_is, p.length_is, stretch_fits (length a.corners.now) a.ends.now a.count a.k)))
 
 pub slice_bounds-result-end : goal.slice_bounds-result-end
-slice_bounds-result-end c = omega (arith, fits c.before)
+slice_bounds-result-end c = omega (arith, (let a = c.args in let p = c.cycle_place-place.ensures in omega (arith, p.start_is, p.length_is, stretch_fits (length a.corners.now) a.ends.now a.count a.k)))
 
 pub returns : goal.returns
 returns c =
-    let place = c.before.before.cycle_place-place in
+    let place = c.cycle_place-place in
     record { corners_are = part_at place.result place.ensures; same_memory = refl; lies_at = omega (arith, place.ensures.start_is) }

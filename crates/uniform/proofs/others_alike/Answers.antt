@@ -6,48 +6,45 @@ use Rattle.uniform.specs.Others.{beside_alike}
 use Rattle.uniform.proofs.others_alike.Goals as goal
 
 pub overflow_add-at : goal.overflow_add-at
-overflow_add-at c = omega (arith, c.before.requires)
+overflow_add-at c = omega (arith, c.requires)
 
 pub square_alike-requires : goal.square_alike-requires
-square_alike-requires c = (c.before.requires.narrow, c.before.requires.east)
+square_alike-requires c = (c.requires.narrow, c.requires.east)
 
 pub returns-then-not-square_alike : goal.returns-then-not-square_alike
 unfolding beside_alike
-returns-then-not-square_alike c = sym (and_stop _ _ (sym c.before.square_alike.ensures ∙ c.if-not-square_alike.true))
+returns-then-not-square_alike c = sym (and_stop _ _ (sym c.square_alike.ensures ∙ c.if-not-square_alike.true))
 
 pub overflow_mul-s : goal.overflow_mul-s
-overflow_mul-s c = omega (arith, c.before.before.before.requires)
+overflow_mul-s c = omega (arith, c.requires)
 
 pub overflow_add-at-2 : goal.overflow_add-at-2
-overflow_add-at-2 c = omega (arith, c.before.before.before.requires)
+overflow_add-at-2 c = omega (arith, c.requires)
 
 pub square_alike-requires-2 : goal.square_alike-requires-2
-square_alike-requires-2 c = (c.before.before.before.requires.narrow, c.before.before.before.requires.south)
+square_alike-requires-2 c = (c.requires.narrow, c.requires.south)
 
 pub returns-then-not-square_alike-2 : goal.returns-then-not-square_alike-2
 unfolding beside_alike
 returns-then-not-square_alike-2 c =
-    let east = c.before.before in
-    sym (and_go_on _ _ (sym east.before.square_alike.ensures ∙ east.if-not-square_alike.false)
-    ∙ and_stop _ _ (sym c.before.square_alike-2.ensures ∙ c.if-not-square_alike-2.true))
+    sym (and_go_on _ _ (sym c.square_alike.ensures ∙ c.if-not-square_alike.false)
+    ∙ and_stop _ _ (sym c.square_alike-2.ensures ∙ c.if-not-square_alike-2.true))
 
 pub overflow_mul-s-2 : goal.overflow_mul-s-2
-overflow_mul-s-2 c = omega (arith, c.before.before.before.before.before.requires)
+overflow_mul-s-2 c = omega (arith, c.requires)
 
 pub overflow_add-at-3 : goal.overflow_add-at-3
-overflow_add-at-3 c = omega (arith, c.before.before.before.before.before.requires)
+overflow_add-at-3 c = omega (arith, c.requires)
 
 pub overflow_add-at-4 : goal.overflow_add-at-4
-overflow_add-at-4 c = omega (arith, c.before.before.before.before.before.requires)
+overflow_add-at-4 c = omega (arith, c.requires)
 
 pub square_alike-requires-3 : goal.square_alike-requires-3
-square_alike-requires-3 c = (c.before.before.before.before.before.requires.narrow, c.before.before.before.before.before.requires.southeast)
+square_alike-requires-3 c = (c.requires.narrow, c.requires.southeast)
 
 pub returns : goal.returns
 unfolding beside_alike
 returns c =
-    let south = c.before in
-    let east = south.before.before in
     c.square_alike-3.ensures
-    ∙ sym (and_go_on _ _ (sym east.before.square_alike.ensures ∙ east.if-not-square_alike.false)
-    ∙ and_go_on _ _ (sym south.before.square_alike-2.ensures ∙ south.if-not-square_alike-2.false))
+    ∙ sym (and_go_on _ _ (sym c.square_alike.ensures ∙ c.if-not-square_alike.false)
+    ∙ and_go_on _ _ (sym c.square_alike-2.ensures ∙ c.if-not-square_alike-2.false))

@@ -13,18 +13,16 @@ loop-i-init c =
 
 pub returns-then-raster-i : goal.returns-then-raster-i
 returns-then-raster-i c =
-    let turn = c.before.before in
-    let a = turn.before.before.args in
-    run_breaks a.raster.now a.v turn.before.loop-i.i (a.from + a.s) turn.loop-i-test.true c.if-raster-i.true ∙ turn.before.loop-i.invariant.3
+    let a = c.args in
+    run_breaks a.raster.now a.v c.loop-i.i (a.from + a.s) c.loop-i-test.true c.if-raster-i.true ∙ c.loop-i.invariant.3
 
 pub loop-i-preserved : goal.loop-i-preserved
 loop-i-preserved c =
-    let turn = c.before.before in
-    let a = turn.before.before.args in
-    let goes_on = run_goes_on a.raster.now a.v turn.before.loop-i.i (a.from + a.s) turn.loop-i-test.true c.if-raster-i.false in
-    (omega arith, omega arith, refl, sym goes_on ∙ turn.before.loop-i.invariant.3)
+    let a = c.args in
+    let goes_on = run_goes_on a.raster.now a.v c.loop-i.i (a.from + a.s) c.loop-i-test.true c.if-raster-i.false in
+    (omega arith, omega arith, refl, sym goes_on ∙ c.loop-i.invariant.3)
 
 pub returns : goal.returns
 returns c =
-    let a = c.before.before.args in
-    run-ended a.raster.now a.v c.before.loop-i.i (a.from + a.s - c.before.loop-i.i) (omega arith) ∙ c.before.loop-i.invariant.3
+    let a = c.args in
+    run-ended a.raster.now a.v c.loop-i.i (a.from + a.s - c.loop-i.i) (omega arith) ∙ c.loop-i.invariant.3

@@ -9,21 +9,18 @@ loop-i-init c = begin _
 
 pub number_place-next-requires : goal.number_place-next-requires
 number_place-next-requires c =
-    let l = c.before.before.loop-i in
-    let e = c.before.before.before.before in
-    let less : l.i < length e.args.labels.now = omega arith in
-    (c.before.loop-i-test.true, omega (arith, up_le e.requires.0 l.invariant less), l.invariant.few, omega (arith, l.invariant.long, e.requires.1))
+    let l = c.loop-i in
+    let less : l.i < length c.args.labels.now = omega arith in
+    (c.loop-i-test.true, omega (arith, up_le c.requires.0 l.invariant less), l.invariant.few, omega (arith, l.invariant.long, c.requires.1))
 
 pub loop-i-preserved : goal.loop-i-preserved
 loop-i-preserved c =
-    let t = c.before.before.before.before in
-    let l = t.before.loop-i in
-    let e = t.before.before.before in
-    let less : l.i < length e.args.labels.now = omega (arith, t.loop-i-test.true, l.invariant.long) in
-    again e.requires.0 l.invariant less c.before.before.number_place-next.ensures.0 c.before.before.number_place-next.ensures.1
+    let l = c.loop-i in
+    let less : l.i < length c.args.labels.now = omega (arith, c.loop-i-test.true, l.invariant.long) in
+    again c.requires.0 l.invariant less c.number_place-next.ensures.0 c.number_place-next.ensures.1
 
 pub shape_of-labels : goal.shape_of-labels
-shape_of-labels c = c.before.loop-i.invariant.long
+shape_of-labels c = c.loop-i.invariant.long
 
 pub returns : goal.returns
-returns c = finish c.before.loop-i.invariant (omega (arith, c.loop-i-test.false, c.before.loop-i.invariant.long))
+returns c = finish c.loop-i.invariant (omega (arith, c.loop-i-test.false, c.loop-i.invariant.long))

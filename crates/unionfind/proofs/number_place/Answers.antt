@@ -10,4 +10,4 @@ returns-then-parent-i c = simp (eq-eqb _ _ c.if-parent-i.true) (refl, refl)
 
 pub returns : goal.returns
 unfolding number_at next_after
-returns c = simp (ne_eqb _ _ c.before.if-parent-i.false) (refl, refl)
+returns c = simp (ne_eqb _ _ c.if-parent-i.false) (refl, refl)

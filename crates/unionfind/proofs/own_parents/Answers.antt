@@ -7,7 +7,7 @@ pub loop-i-init : goal.loop-i-init
 loop-i-init c = begin _
 
 pub loop-i-preserved : goal.loop-i-preserved
-loop-i-preserved c = again c.before.loop-i.invariant (omega arith)
+loop-i-preserved c = again c.loop-i.invariant (omega arith)
 
 pub returns : goal.returns
-returns c = finish c.before.loop-i.invariant (omega arith)
+returns c = finish c.loop-i.invariant (omega arith)

@@ -10,10 +10,10 @@ pub loop-x-init : goal.loop-x-init
 loop-x-init c = row_begin _
 
 pub loop-x-preserved : goal.loop-x-preserved
-loop-x-preserved c = row_again c.before.before.before.loop-x.invariant c.before.before.loop-x-test.true c.own_or_west-west.ensures
+loop-x-preserved c = row_again c.loop-x.invariant c.loop-x-test.true c.own_or_west-west.ensures
 
 pub shape_of-row : goal.shape_of-row
-shape_of-row c = c.before.loop-x.invariant.long
+shape_of-row c = c.loop-x.invariant.long
 
 pub returns : goal.returns
-returns c = row_end c.before.loop-x.invariant (omega (arith, c.loop-x-test.false)) c.before.before.if-west-eq0.false
+returns c = row_end c.loop-x.invariant (omega (arith, c.loop-x-test.false)) c.if-west-eq0.false

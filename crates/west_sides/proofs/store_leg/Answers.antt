@@ -13,21 +13,19 @@ returns-then-from-to c = leg_not_north _ _ _ _ _ _ c.if-from-to.true
 pub returns-then-side-x : goal.returns-then-side-x
 unfolding x_of y_of
 returns-then-side-x c =
-    let n = c.before.if-from-to.false in
+    let n = c.if-from-to.false in
     ⊎_elim
     (λ e. leg_east_of_image _ _ _ _ (omega (arith, n)) _ _ _ e.taken)
     (⊎_elim
     (λ e. leg_south_of_image _ _ _ _ (omega (arith, n)) _ _ _ (ltb-true _ _ e.1.true))
     (λ e. leg_too_long _ _ _ _ (omega (arith, n)) _ _ _ (ltb-true _ _ e.2.true)))
-    c.if-side-x.branch
+    c.then-side-x.branch
 
 pub store_north-requires : goal.store_north-requires
-store_north-requires c = let i = c.before.before in (i.before.before.before.before.requires, omega (arith, i.before.if-side-x.false), ltb-false _ _ i.if-side-from.false)
+store_north-requires c = (c.requires, omega (arith, c.if-side-x.false), ltb-false _ _ c.if-side-from.false)
 
 pub returns : goal.returns
 unfolding x_of y_of
 returns c =
-    let s = c.before.before in
-    let i = s.before.before in
-    leg_stored _ _ _ _ (omega (arith, i.before.before.before.if-from-to.false)) _ (omega (arith, i.before.before.if-side-x.false)) (ltb-false _ _ i.before.if-side-from.false)
-    (ltb-false _ _ i.if-units-from.false) s.store_north.auto.0 s.store_north.ensures
+    leg_stored _ _ _ _ (omega (arith, c.if-from-to.false)) _ (omega (arith, c.if-side-x.false)) (ltb-false _ _ c.if-side-from.false)
+    (ltb-false _ _ c.if-units-from.false) c.store_north.auto.0 c.store_north.ensures

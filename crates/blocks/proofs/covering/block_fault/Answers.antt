@@ -9,26 +9,24 @@ pub returns-then-n-level : goal.returns-then-n-level
 returns-then-n-level c = sym (fault_above _ _ _ _ c.if-n-level.true)
 
 pub returns-then-code-sum : goal.returns-then-code-sum
-returns-then-code-sum c = sym (fault_elsewhere _ _ _ _ c.before.if-n-level.false c.if-code-sum.true)
+returns-then-code-sum c = sym (fault_elsewhere _ _ _ _ c.if-n-level.false c.if-code-sum.true)
 
 pub returns-then-sum-whole : goal.returns-then-sum-whole
-returns-then-sum-whole c = sym (fault_full _ _ _ _ c.before.before.if-n-level.false c.before.if-code-sum.false (c.if-sum-whole.true ∙ c.before.before.before.requires.1))
+returns-then-sum-whole c = sym (fault_full _ _ _ _ c.if-n-level.false c.if-code-sum.false (c.if-sum-whole.true ∙ c.requires.1))
 
 pub returns-then-alignment-level : goal.returns-then-alignment-level
 returns-then-alignment-level c =
-    let s = c.before.before.before.before in
-    let a = s.before.args in
-    let low = s.if-n-level.false in
-    sym (fault_crooked _ _ _ _ low c.before.before.before.if-code-sum.false (λ e. c.before.before.if-sum-whole.false (e ∙ sym s.before.requires.1))
-    (λ e. omega (arith, c.if-alignment-level.true, c.before.alignment.ensures, divides_aligned a.level a.code (omega (arith, low, s.before.requires.0)) e)))
+    let a = c.args in
+    let low = c.if-n-level.false in
+    sym (fault_crooked _ _ _ _ low c.if-code-sum.false (λ e. c.if-sum-whole.false (e ∙ sym c.requires.1))
+    (λ e. omega (arith, c.if-alignment-level.true, c.alignment.ensures, divides_aligned a.level a.code (omega (arith, low, c.requires.0)) e)))
 
 pub returns : goal.returns
 returns c =
-    let s = c.before.before.before.before in
-    let a = s.before.args in
+    let a = c.args in
     sym (fault_none (record {
-      low = s.if-n-level.false;
-      here = c.before.before.before.if-code-sum.false;
-      short = λ e. c.before.before.if-sum-whole.false (e ∙ sym s.before.requires.1);
-      multiple = aligned_divides a.level a.code (omega (arith, c.if-alignment-level.false, c.before.alignment.ensures));
+      low = c.if-n-level.false;
+      here = c.if-code-sum.false;
+      short = λ e. c.if-sum-whole.false (e ∙ sym c.requires.1);
+      multiple = aligned_divides a.level a.code (omega (arith, c.if-alignment-level.false, c.alignment.ensures));
     }))

@@ -5,42 +5,34 @@ use mathlib.Core.Path.{sym, ◌∙◌}
 use Rattle.blocks.proofs.covering.stride.Goals as goal
 
 pub overflow_cast-level : goal.overflow_cast-level
-overflow_cast-level c = omega (arith, c.shared_slice_known-4-1.given c.before.before.before.before.args.i)
+overflow_cast-level c = omega (arith, c.shared_slice_known-4-1.given c.args.i)
 
 pub returns-then-n-level : goal.returns-then-n-level
 returns-then-n-level c =
-    let a = c.before.before.before.before.before.args in
+    let a = c.args in
     not_below_n a.n a.codes.now a.levels.now a.colours.now a.i c.if-n-level.true
 
 pub returns-then-alignment-level : goal.returns-then-alignment-level
 returns-then-alignment-level c =
-    let low = c.before.before.before in
-    let start = low.before.before.before.before.before in
-    let a = start.args in
+    let a = c.args in
     not_first_child a.n a.codes.now a.levels.now a.colours.now a.i
-    (omega (arith, low.if-n-level.false, start.requires.0)) (omega (arith, c.before.alignment.ensures, c.if-alignment-level.true))
+    (omega (arith, c.if-n-level.false, c.requires.0)) (omega (arith, c.alignment.ensures, c.if-alignment-level.true))
 
 pub returns-then-not-levels_alike : goal.returns-then-not-levels_alike
 returns-then-not-levels_alike c =
-    let a = c.before.before.before.before.before.before.before.before.before.before.args in
-    not_one_level a.n a.codes.now a.levels.now a.colours.now a.i (sym c.before.levels_alike.ensures ∙ c.if-not-levels_alike.true)
+    let a = c.args in
+    not_one_level a.n a.codes.now a.levels.now a.colours.now a.i (sym c.levels_alike.ensures ∙ c.if-not-levels_alike.true)
 
 pub returns-then-colours_alike : goal.returns-then-colours_alike
 returns-then-colours_alike c =
-    let one-level = c.before.before in
-    let aligned = one-level.before.before in
-    let low = aligned.before.before.before in
-    let a = low.before.before.before.before.before.args in
+    let a = c.args in
     one_colour_lem a.n a.codes.now a.levels.now a.colours.now a.i
-    low.if-n-level.false (omega (arith, aligned.before.alignment.ensures, aligned.if-alignment-level.false))
-    (sym one-level.before.levels_alike.ensures ∙ one-level.if-not-levels_alike.false) (sym c.before.colours_alike.ensures ∙ c.if-colours_alike.true)
+    c.if-n-level.false (omega (arith, c.alignment.ensures, c.if-alignment-level.false))
+    (sym c.levels_alike.ensures ∙ c.if-not-levels_alike.false) (sym c.colours_alike.ensures ∙ c.if-colours_alike.true)
 
 pub returns : goal.returns
 returns c =
-    let one-level = c.before.before in
-    let aligned = one-level.before.before in
-    let low = aligned.before.before.before in
-    let a = low.before.before.before.before.before.args in
+    let a = c.args in
     more-colours a.n a.codes.now a.levels.now a.colours.now a.i
-    low.if-n-level.false (omega (arith, aligned.before.alignment.ensures, aligned.if-alignment-level.false))
-    (sym one-level.before.levels_alike.ensures ∙ one-level.if-not-levels_alike.false) (sym c.before.colours_alike.ensures ∙ c.if-colours_alike.false)
+    c.if-n-level.false (omega (arith, c.alignment.ensures, c.if-alignment-level.false))
+    (sym c.levels_alike.ensures ∙ c.if-not-levels_alike.false) (sym c.colours_alike.ensures ∙ c.if-colours_alike.false)

@@ -7,18 +7,18 @@ use Rattle.chains.proofs.reading.is_free.Goals as goal
 
 pub returns-in-0 : goal.returns-in-0
 unfolding free x_of y_of
-returns-in-0 c = sym (ap (λ d. free d c.before.args.p) c.in-0.is)
+returns-in-0 c = sym (ap (λ d. free d c.args.p) c.in-0.is)
 
 pub returns-in-1 : goal.returns-in-1
 unfolding free x_of y_of
-returns-in-1 c = sym (ap (λ d. free d c.before.args.p) c.in-1.is)
+returns-in-1 c = sym (ap (λ d. free d c.args.p) c.in-1.is)
 
 pub returns-in-2 : goal.returns-in-2
 unfolding free x_of y_of
-returns-in-2 c = sym (ap (λ d. free d c.before.args.p) c.in-2.is)
+returns-in-2 c = sym (ap (λ d. free d c.args.p) c.in-2.is)
 
 pub returns-in_default : goal.returns-in_default
 unfolding free x_of y_of
 returns-in_default c =
-    let e : c.before.args.d ≡ 3 = omega (arith, c.in-0.rest.0.0.1, c.in-0.rest.0.1, c.in-0.rest.1, c.before.requires) in
-    sym (ap (λ d. free d c.before.args.p) e)
+    let e : c.args.d ≡ 3 = omega (arith, c.in_default.rest.0.0.1, c.in_default.rest.0.1, c.in_default.rest.1, c.requires) in
+    sym (ap (λ d. free d c.args.p) e)

@@ -8,34 +8,34 @@ use Rattle.chains.proofs.reading.moved.Goals as goal
 
 pub overflow_add-result : goal.overflow_add-result
 unfolding x_of y_of
-overflow_add-result c = omega (arith, inside_says c.before.args.p c.before.requires.1)
+overflow_add-result c = omega (arith, inside_says c.args.p c.requires.1)
 
 pub overflow_sub-result : goal.overflow_sub-result
 unfolding x_of y_of
-overflow_sub-result c = omega (arith, (free_says c.before.args.d c.before.args.p c.before.requires.0 c.before.requires.2).north c.in-1.is)
+overflow_sub-result c = omega (arith, (free_says c.args.d c.args.p c.requires.0 c.requires.2).north c.in-1.is)
 
 pub overflow_sub-result-in-2 : goal.overflow_sub-result-in-2
 unfolding x_of y_of
-overflow_sub-result-in-2 c = omega (arith, (free_says c.before.args.d c.before.args.p c.before.requires.0 c.before.requires.2).west c.in-2.is)
+overflow_sub-result-in-2 c = omega (arith, (free_says c.args.d c.args.p c.requires.0 c.requires.2).west c.in-2.is)
 
 pub overflow_add-result-in_default : goal.overflow_add-result-in_default
 unfolding x_of y_of
-overflow_add-result-in_default c = omega (arith, inside_says c.before.args.p c.before.requires.1)
+overflow_add-result-in_default c = omega (arith, inside_says c.args.p c.requires.1)
 
 pub returns-in-0 : goal.returns-in-0
 unfolding move
-returns-in-0 c = sym (ap (λ d. move d c.before.args.p) c.in-0.is)
+returns-in-0 c = sym (ap (λ d. move d c.args.p) c.in-0.is)
 
 pub returns-in-1 : goal.returns-in-1
 unfolding move
-returns-in-1 c = sym (ap (λ d. move d c.before.args.p) c.in-1.is)
+returns-in-1 c = sym (ap (λ d. move d c.args.p) c.in-1.is)
 
 pub returns-in-2 : goal.returns-in-2
 unfolding move
-returns-in-2 c = sym (ap (λ d. move d c.before.args.p) c.in-2.is)
+returns-in-2 c = sym (ap (λ d. move d c.args.p) c.in-2.is)
 
 pub returns-in_default : goal.returns-in_default
 unfolding move
 returns-in_default c =
-    let e : c.before.args.d ≡ 3 = omega (arith, c.in-0.rest.0.0.1, c.in-0.rest.0.1, c.in-0.rest.1, c.before.requires.0) in
-    sym (ap (λ d. move d c.before.args.p) e)
+    let e : c.args.d ≡ 3 = omega (arith, c.in_default.rest.0.0.1, c.in_default.rest.0.1, c.in_default.rest.1, c.requires.0) in
+    sym (ap (λ d. move d c.args.p) e)

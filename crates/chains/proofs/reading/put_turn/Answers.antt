@@ -1,27 +1,20 @@
 -- The point is stored exactly where the digit changes.
 use mathlib.Core.Path.{sym}
-use Prim.Native.Nat.{◌<◌}
 use native.Mathlib.Omega.{arith}
-use lib.ListN.{length}
 use borrow.Author.Tests.{eq-eqb, ne_eqb}
 use Rattle.chains.proofs.reading.put_turn.Goals as goal
-use Rattle.chains.proofs.reading.put_turn.Tie as tie
-
--- Room where the digit changes.
-room : (c : tie.Else-e-d) → c.before.args.at < length c.before.args.corners.now
-room c = c.before.requires (λ same. c.if-e-d.false (omega (arith, same)))
 
 pub returns-then-e-d : goal.returns-then-e-d
 returns-then-e-d c = let same = eq-eqb _ _ (sym c.if-e-d.true) in record { next_is = simp same; list = simp same }
 
 pub offset_bounds-corners-at : goal.offset_bounds-corners-at
-offset_bounds-corners-at c = omega (arith, room c)
+offset_bounds-corners-at c = omega (arith, (c.requires (λ same. c.if-e-d.false (omega (arith, same)))))
 
 pub bounds-corners-at : goal.bounds-corners-at
-bounds-corners-at c = omega (arith, room c)
+bounds-corners-at c = omega (arith, (c.requires (λ same. c.if-e-d.false (omega (arith, same)))))
 
 pub overflow_add-result : goal.overflow_add-result
-overflow_add-result c = omega (arith, room c)
+overflow_add-result c = omega (arith, (c.requires (λ same. c.if-e-d.false (omega (arith, same)))))
 
 pub returns : goal.returns
 returns c = let other = ne_eqb _ _ (λ same. c.if-e-d.false (sym same)) in record { next_is = simp other; list = simp other }

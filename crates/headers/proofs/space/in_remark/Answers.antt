@@ -6,11 +6,11 @@ use Rattle.headers.proofs.space.in_remark.Goals as goal
 
 pub returns-then-b-eq10 : goal.returns-then-b-eq10
 unfolding is_end
-returns-then-b-eq10 c = simp (c.before.if-inside.true, eq-eqb _ _ c.if-b-eq10.true) refl
+returns-then-b-eq10 c = simp (c.if-inside.true, eq-eqb _ _ c.if-b-eq10.true) refl
 
 pub returns-then-inside : goal.returns-then-inside
 unfolding is_end
-returns-then-inside c = simp (c.before.if-inside.true, ne_eqb _ _ c.if-b-eq10.false) refl
+returns-then-inside c = simp (c.if-inside.true, ne_eqb _ _ c.if-b-eq10.false) refl
 
 pub returns : goal.returns
 unfolding is_sign

@@ -16,11 +16,11 @@ returns-then-b-eq32 c = simp (eq-eqb _ _ c.if-b-eq32.true) refl
 
 pub returns-then-b-eq9 : goal.returns-then-b-eq9
 unfolding is_space
-returns-then-b-eq9 c = simp (ne_eqb _ _ c.before.if-b-eq32.false, eq-eqb _ _ c.if-b-eq9.true) refl
+returns-then-b-eq9 c = simp (ne_eqb _ _ c.if-b-eq32.false, eq-eqb _ _ c.if-b-eq9.true) refl
 
 pub returns-then-b-eq10 : goal.returns-then-b-eq10
 unfolding is_space
-returns-then-b-eq10 c = simp (ne_eqb _ _ c.before.before.if-b-eq32.false, ne_eqb _ _ c.before.if-b-eq9.false, eq-eqb _ _ c.if-b-eq10.true) refl
+returns-then-b-eq10 c = simp (ne_eqb _ _ c.if-b-eq32.false, ne_eqb _ _ c.if-b-eq9.false, eq-eqb _ _ c.if-b-eq10.true) refl
 
 pub returns : goal.returns
-returns c = sym (last _ c.before.before.if-b-eq32.false c.before.if-b-eq9.false c.if-b-eq10.false)
+returns c = sym (last _ c.if-b-eq32.false c.if-b-eq9.false c.if-b-eq10.false)

@@ -8,8 +8,8 @@ returns-then-inside c = rw c.if-inside.true refl
 
 pub returns-then-is_space : goal.returns-then-is_space
 unfolding is_white
-returns-then-is_space c = rw (c.before.before.if-inside.false, sym c.before.is_space.ensures ∙ c.if-is_space.true) refl
+returns-then-is_space c = rw (c.if-inside.false, sym c.is_space.ensures ∙ c.if-is_space.true) refl
 
 pub returns : goal.returns
 unfolding is_white is_sign
-returns c = rw (c.before.before.if-inside.false, sym c.before.is_space.ensures ∙ c.if-is_space.false) refl
+returns c = rw (c.if-inside.false, sym c.is_space.ensures ∙ c.if-is_space.false) refl

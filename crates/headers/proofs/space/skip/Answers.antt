@@ -6,32 +6,32 @@ use Rattle.headers.proofs.Places.{skip-end, remark-end, skip-yes, skip-no}
 use Rattle.headers.proofs.space.skip.Goals as goal
 
 pub loop-at-init : goal.loop-at-init
-loop-at-init c = (c.before.requires, refl)
+loop-at-init c = (c.requires, refl)
 
 pub returns-then-not-white : goal.returns-then-not-white
 returns-then-not-white c =
-    let l = c.before.before.before.before.loop-at in
-    let e = sym c.before.is_white-white.ensures ∙ c.if-not-white.true in
-    record { says = sym (skip-no _ _ c.before.before.before.loop-at-test.true _ e) ∙ l.invariant.1; inside = l.invariant.0 }
+    let l = c.loop-at in
+    let e = sym c.is_white-white.ensures ∙ c.if-not-white.true in
+    record { says = sym (skip-no _ _ c.loop-at-test.true _ e) ∙ l.invariant.1; inside = l.invariant.0 }
 
 pub loop-at-preserved : goal.loop-at-preserved
 loop-at-preserved c =
-    let l = c.before.before.before.before.before.loop-at in
-    let e = sym c.before.before.is_white-white.ensures ∙ c.before.if-not-white.false in
-    (omega arith, rw c.in_remark-remark.ensures (sym (skip-yes _ _ c.before.before.before.before.loop-at-test.true _ e) ∙ l.invariant.1))
+    let l = c.loop-at in
+    let e = sym c.is_white-white.ensures ∙ c.if-not-white.false in
+    (omega arith, rw c.in_remark-remark.ensures (sym (skip-yes _ _ c.loop-at-test.true _ e) ∙ l.invariant.1))
 
 pub returns-then-remark : goal.returns-then-remark
 returns-then-remark c =
-    let l = c.before.before.loop-at in
+    let l = c.loop-at in
     record {
-      says = sym (remark-end _ _ c.before.loop-at-test.false _ c.if-remark.true) ∙ l.invariant.1;
+      says = sym (remark-end _ _ c.loop-at-test.false _ c.if-remark.true) ∙ l.invariant.1;
       inside = omega arith;
     }
 
 pub returns : goal.returns
 returns c =
-    let l = c.before.before.loop-at in
+    let l = c.loop-at in
     record {
-      says = sym (skip-end _ _ c.before.loop-at-test.false _ c.if-remark.false) ∙ l.invariant.1;
+      says = sym (skip-end _ _ c.loop-at-test.false _ c.if-remark.false) ∙ l.invariant.1;
       inside = l.invariant.0;
     }

@@ -17,7 +17,7 @@ pub returns-then-is_space : goal.returns-then-is_space
 unfolding space
 returns-then-is_space c =
     record {
-      says = sym (byte-yes _ _ c.before.before.before.if-bytes-at.false _ (sym c.before.is_space.ensures ∙ c.if-is_space.true));
+      says = sym (byte-yes _ _ c.if-bytes-at.false _ (sym c.is_space.ensures ∙ c.if-is_space.true));
       inside = omega arith;
     }
 
@@ -25,6 +25,6 @@ pub returns-else-is_space : goal.returns-else-is_space
 unfolding space
 returns-else-is_space c =
     record {
-      says = sym (byte-no _ _ c.before.before.before.if-bytes-at.false _ (sym c.before.is_space.ensures ∙ c.if-is_space.false));
+      says = sym (byte-no _ _ c.if-bytes-at.false _ (sym c.is_space.ensures ∙ c.if-is_space.false));
       inside = omega arith;
     }

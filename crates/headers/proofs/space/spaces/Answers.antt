@@ -9,14 +9,14 @@ returns-then-bytes-at c = record { says = sym (spaces-end _ _ c.if-bytes-at.true
 
 pub returns-then-not-white : goal.returns-then-not-white
 returns-then-not-white c =
-    let other = sym c.before.is_white-white.ensures ∙ c.if-not-white.true in
-    record { says = sym (spaces-no _ _ c.before.before.before.if-bytes-at.false other); inside = omega arith }
+    let other = sym c.is_white-white.ensures ∙ c.if-not-white.true in
+    record { says = sym (spaces-no _ _ c.if-bytes-at.false other); inside = omega arith }
 
 pub skip-requires : goal.skip-requires
-skip-requires c = omega (arith, c.before.before.before.if-bytes-at.false)
+skip-requires c = omega (arith, c.if-bytes-at.false)
 
 pub returns : goal.returns
 returns c =
-    let white = sym c.before.before.is_white-white.ensures ∙ c.before.if-not-white.false in
+    let white = sym c.is_white-white.ensures ∙ c.if-not-white.false in
     let p = c.skip.ensures in
-    record { says = p.says ∙ sym (spaces-yes _ _ c.before.before.before.before.if-bytes-at.false white); inside = p.inside }
+    record { says = p.says ∙ sym (spaces-yes _ _ c.if-bytes-at.false white); inside = p.inside }

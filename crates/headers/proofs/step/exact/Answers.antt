@@ -15,13 +15,13 @@ returns-then-bytes-at c =
 pub returns-then-bytes-at-2 : goal.returns-then-bytes-at-2
 returns-then-bytes-at-2 c =
     record {
-      says = sym (byte-yes _ _ c.before.before.if-bytes-at.false _ (eq-eqb _ _ c.if-bytes-at-2.true));
+      says = sym (byte-yes _ _ c.if-bytes-at.false _ (eq-eqb _ _ c.if-bytes-at-2.true));
       inside = omega arith;
     }
 
 pub returns-else-bytes-at-2 : goal.returns-else-bytes-at-2
 returns-else-bytes-at-2 c =
     record {
-      says = sym (byte-no _ _ c.before.before.if-bytes-at.false _ (ne_eqb _ _ c.if-bytes-at-2.false));
+      says = sym (byte-no _ _ c.if-bytes-at.false _ (ne_eqb _ _ c.if-bytes-at-2.false));
       inside = omega arith;
     }

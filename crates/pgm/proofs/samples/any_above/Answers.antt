@@ -5,16 +5,16 @@ use Rattle.pgm.proofs.Sampling.{room-of-each, looked-at-greatest, looked-none, l
 use Rattle.pgm.proofs.samples.any_above.Goals as goal
 
 pub returns-then-maxval-greatest : goal.returns-then-maxval-greatest
-returns-then-maxval-greatest c = looked-at-greatest _ _ _ _ (c.if-maxval-greatest.true ∙ c.before.greatest.ensures) (λ k. omega (arith, c.before.before.shared-slice-known.given k))
+returns-then-maxval-greatest c = looked-at-greatest _ _ _ _ (c.if-maxval-greatest.true ∙ c.greatest.ensures) (λ k. omega (arith, c.shared_slice_known-1.given k))
 
 pub loop-i-init : goal.loop-i-init
 loop-i-init c = looked-none _ _ _ _
 
 pub sample-requires : goal.sample-requires
-sample-requires c = room-of-each _ _ _ _ c.before.before.before.before.before.requires c.loop-i-test.true
+sample-requires c = room-of-each _ _ _ _ c.requires c.loop-i-test.true
 
 pub loop-i-preserved : goal.loop-i-preserved
-loop-i-preserved c = let turn = c.before.before.loop-i in looked-more _ _ _ _ turn.found c.sample.result turn.i c.before.loop-i-test.true c.sample.ensures c.before.before.loop-i.invariant
+loop-i-preserved c = let turn = c.loop-i in looked-more _ _ _ _ turn.found c.sample.result turn.i c.loop-i-test.true c.sample.ensures c.loop-i.invariant
 
 pub returns : goal.returns
-returns c = looked-all _ _ _ _ _ _ c.loop-i-test.false c.before.loop-i.invariant
+returns c = looked-all _ _ _ _ _ _ c.loop-i-test.false c.loop-i.invariant

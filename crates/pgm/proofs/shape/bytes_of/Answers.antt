@@ -6,7 +6,7 @@ use Rattle.pgm.specs.Samples.{one_byte, two_bytes}
 use Rattle.pgm.proofs.shape.bytes_of.Goals as goal
 
 pub returns-then-wide : goal.returns-then-wide
-returns-then-wide c = ap (λ (k : ℕ). k * c.before.args.count) (sym (two_bytes c.if-wide.true))
+returns-then-wide c = ap (λ (k : ℕ). k * c.args.count) (sym (two_bytes c.if-wide.true))
 
 pub returns : goal.returns
-returns c = omega (arith, ap (λ (k : ℕ). k * c.before.args.count) (one_byte c.if-wide.false))
+returns c = omega (arith, ap (λ (k : ℕ). k * c.args.count) (one_byte c.if-wide.false))

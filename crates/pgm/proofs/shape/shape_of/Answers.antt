@@ -1,8 +1,8 @@
 -- Each test comes in the order of the causes, so at each return the law of that cause applies. A width that passes 11 is at most 256, so
 -- the product does not overflow.
-use mathlib.Core.Path.{◌≡◌, sym, ap, ◌∙◌}
+use mathlib.Core.Path.{sym, ap, ◌∙◌}
 use mathlib.Core.Bool.{not}
-use Prim.Native.Nat.{ℕ, ◌≤◌, ◌*◌}
+use Prim.Native.Nat.{ℕ, ◌≤◌}
 use native.Mathlib.Nat.{mul-le-mul}
 use native.Mathlib.Omega.{arith}
 use lib.Dec.{eqb}
@@ -10,50 +10,30 @@ use Rattle.pgm.specs.Exponent.{exponent, width_small}
 use Rattle.pgm.specs.Samples.{is_wide}
 use Rattle.pgm.specs.Picture.{outside}
 use Rattle.pgm.specs.ShapeLaws.{width_not_height, width_no_power, maxval_outside, size_wrong, size_right}
-use Rattle.pgm.specs.declared.shape.PowerOfTwo.{PowerOfTwo}
 use Rattle.pgm.proofs.shape.shape_of.Goals as goal
-use Rattle.pgm.proofs.shape.shape_of.Tie as tie
-
--- Past 11 width and height are equal, and a power of two.
-equal : (c : tie.In-Power) → let a = c.before.before.before.before.before.args in a.width ≡ a.height
-equal c = c.before.before.before.before.if-width-height.false
-
-power : (c : tie.In-Power) → exponent c.before.before.before.before.before.args.width ≡ PowerOfTwo.Power c.before.in-Power.n
-power c = sym c.before.before.before.exponent.ensures ∙ c.before.in-Power.is
-
-few : (c : tie.In-Power) → let a = c.before.before.before.before.before.args in a.width * a.height ≤ 65536
-few c =
-    let a = c.before.before.before.before.before.args in
-    let w : a.width ≤ 256 = width_small a.width (power c) in
-    let h : a.height ≤ 256 = omega (arith, equal c) in
-    mul-le-mul w h
 
 pub returns-then-width-height : goal.returns-then-width-height
 returns-then-width-height c = width_not_height _ _ c.if-width-height.true
 
 pub returns-in_default : goal.returns-in_default
 returns-in_default c =
-    let none = sym c.before.before.exponent.ensures ∙ c.in_default.is in
-    width_no_power _ _ c.before.before.before.if-width-height.false none
+    let none = sym c.exponent.ensures ∙ c.in_default.is in
+    width_no_power _ _ c.if-width-height.false none
 
 pub overflow_mul-count : goal.overflow_mul-count
-overflow_mul-count c = omega (arith, few c)
+overflow_mul-count c = omega (arith, (let a = c.args in let w : a.width ≤ 256 = width_small a.width (sym c.exponent.ensures ∙ c.in-Power.is) in let h : a.height ≤ 256 = omega (arith, c.if-width-height.false) in mul-le-mul w h))
 
 pub bytes_of-requires : goal.bytes_of-requires
-bytes_of-requires c = few c
+bytes_of-requires c = (let a = c.args in let w : a.width ≤ 256 = width_small a.width (sym c.exponent.ensures ∙ c.in-Power.is) in let h : a.height ≤ 256 = omega (arith, c.if-width-height.false) in mul-le-mul w h)
 
 pub returns-then-outside : goal.returns-then-outside
 unfolding outside
-returns-then-outside c = let past = c.before.before in maxval_outside _ _ (equal past) (power past) c.if-outside.true
+returns-then-outside c = maxval_outside _ _ c.if-width-height.false (sym c.exponent.ensures ∙ c.in-Power.is) c.if-outside.true
 
 pub returns-then-unfilled : goal.returns-then-unfilled
 unfolding outside is_wide
-returns-then-unfilled c =
-    let past = c.before.before.before in
-    size_wrong _ _ (equal past) (power past) c.before.if-outside.false (ap (λ (k : ℕ). not (eqb past.before.before.before.before.before.args.length k)) (sym c.before.before.bytes_of.ensures) ∙ c.if-unfilled.true)
+returns-then-unfilled c = size_wrong _ _ c.if-width-height.false (sym c.exponent.ensures ∙ c.in-Power.is) c.if-outside.false (ap (λ (k : ℕ). not (eqb c.args.length k)) (sym c.bytes_of.ensures) ∙ c.if-unfilled.true)
 
 pub returns : goal.returns
 unfolding outside is_wide
-returns c =
-    let past = c.before.before.before in
-    size_right _ _ (equal past) (power past) c.before.if-outside.false (ap (λ (k : ℕ). not (eqb past.before.before.before.before.before.args.length k)) (sym c.before.before.bytes_of.ensures) ∙ c.if-unfilled.false)
+returns c = size_right _ _ c.if-width-height.false (sym c.exponent.ensures ∙ c.in-Power.is) c.if-outside.false (ap (λ (k : ℕ). not (eqb c.args.length k)) (sym c.bytes_of.ensures) ∙ c.if-unfilled.false)

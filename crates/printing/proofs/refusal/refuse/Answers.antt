@@ -5,7 +5,7 @@ use Rattle.printing.specs.Printable.{refused_silently, refused_in_line}
 use Rattle.printing.proofs.refusal.refuse.Goals as goal
 
 pub returns-then-text-lt11 : goal.returns-then-text-lt11
-returns-then-text-lt11 c = refused_silently c.before.requires (omega (arith, c.if-text-lt11.true))
+returns-then-text-lt11 c = refused_silently c.requires (omega (arith, c.if-text-lt11.true))
 
 pub bounds-text-1 : goal.bounds-text-1
 bounds-text-1 c = simp length-set (omega arith)
@@ -38,4 +38,4 @@ pub bounds-text-10 : goal.bounds-text-10
 bounds-text-10 c = simp length-set (omega arith)
 
 pub returns : goal.returns
-returns c = refused_in_line c.before.requires c.if-text-lt11.false
+returns c = refused_in_line c.requires c.if-text-lt11.false

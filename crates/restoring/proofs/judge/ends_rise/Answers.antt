@@ -7,13 +7,13 @@ pub loop-k-init : goal.loop-k-init
 loop-k-init c = all_ends _ _
 
 pub overflow_cast-end : goal.overflow_cast-end
-overflow_cast-end c = omega (arith, c.shared-slice-known.given c.before.before.loop-k.k)
+overflow_cast-end c = omega (arith, c.shared_slice_known-1.given c.loop-k.k)
 
 pub returns-then-end-from : goal.returns-then-end-from
-returns-then-end-from c = end_too_low c.before.before.before.loop-k.invariant c.before.before.loop-k-test.true c.if-end-from.true
+returns-then-end-from c = end_too_low c.loop-k.invariant c.loop-k-test.true c.if-end-from.true
 
 pub loop-k-preserved : goal.loop-k-preserved
-loop-k-preserved c = next_end c.before.before.before.loop-k.invariant c.before.before.loop-k-test.true c.if-end-from.false
+loop-k-preserved c = next_end c.loop-k.invariant c.loop-k-test.true c.if-end-from.false
 
 pub returns : goal.returns
-returns c = no_end_left c.before.loop-k.invariant c.loop-k-test.false
+returns c = no_end_left c.loop-k.invariant c.loop-k-test.false

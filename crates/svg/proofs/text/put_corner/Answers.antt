@@ -12,24 +12,21 @@ use Rattle.svg.proofs.text.put_corner.Goals as goal
 
 pub returns-then-i-eq0 : goal.returns-then-i-eq0
 returns-then-i-eq0 c =
-    let t = c.before.before.before.before in
-    let a = t.before.before.args in
-    put_same (word 0 a.c) (word a.i a.c) (ap (λ i. word i a.c) t.if-i-eq0.true) c.before.before.put_first.ensures
+    let a = c.args in
+    put_same (word 0 a.c) (word a.i a.c) (ap (λ i. word i a.c) c.if-i-eq0.true) c.put_first.ensures
 
 pub put_number-requires : goal.put_number-requires
 unfolding y_of
-put_number-requires c = let s = c.before.before.before.before in omega (arith, inside_says s.args.c s.requires.1)
+put_number-requires c = omega (arith, inside_says c.args.c c.requires.1)
 
 pub returns-then-i-eq0-2 : goal.returns-then-i-eq0-2
 unfolding y_of
 returns-then-i-eq0-2 c =
-    let t = c.before.before.before.before in
-    let a = t.before.before.before.args in
-    put_same (86 ∷ decimal (a.c / 512)) (word a.i a.c) (word_even a.i a.c t.before.if-i-eq0.false t.if-i-eq0-2.true) c.before.before.put_number.ensures
+    let a = c.args in
+    put_same (86 ∷ decimal (a.c / 512)) (word a.i a.c) (word_even a.i a.c c.if-i-eq0.false c.if-i-eq0-2.true) c.put_number.ensures
 
 pub returns : goal.returns
 unfolding x_of
 returns c =
-    let t = c.before.before.before.before in
-    let a = t.before.before.before.args in
-    put_same (72 ∷ decimal (a.c % 512)) (word a.i a.c) (word_odd a.i a.c (omega arith)) c.before.before.put_number-2.ensures
+    let a = c.args in
+    put_same (72 ∷ decimal (a.c % 512)) (word a.i a.c) (word_odd a.i a.c (omega arith)) c.put_number-2.ensures

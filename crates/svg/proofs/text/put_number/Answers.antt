@@ -11,7 +11,7 @@ pub shape_of-text-then-v-lt10 : goal.shape_of-text-then-v-lt10
 shape_of-text-then-v-lt10 c = simp length-set
 
 pub returns-then-v-lt10 : goal.returns-then-v-lt10
-returns-then-v-lt10 c = let a = c.before.args in put_one a.text.now a.letter a.v c.before.requires.0 (omega (arith, c.if-v-lt10.true))
+returns-then-v-lt10 c = let a = c.args in put_one a.text.now a.letter a.v c.requires.0 (omega (arith, c.if-v-lt10.true))
 
 pub bounds-text-1-then-v-lt100 : goal.bounds-text-1-then-v-lt100
 bounds-text-1-then-v-lt100 c = simp length-set (omega arith)
@@ -23,7 +23,7 @@ pub shape_of-text-then-v-lt100 : goal.shape_of-text-then-v-lt100
 shape_of-text-then-v-lt100 c = simp length-set
 
 pub returns-then-v-lt100 : goal.returns-then-v-lt100
-returns-then-v-lt100 c = let a = c.before.before.args in put_two a.text.now a.letter a.v c.before.before.requires.0 c.before.if-v-lt10.false c.if-v-lt100.true
+returns-then-v-lt100 c = let a = c.args in put_two a.text.now a.letter a.v c.requires.0 c.if-v-lt10.false c.if-v-lt100.true
 
 pub bounds-text-1-2 : goal.bounds-text-1-2
 bounds-text-1-2 c = simp length-set (omega arith)
@@ -38,4 +38,4 @@ pub shape_of-text : goal.shape_of-text
 shape_of-text c = simp length-set
 
 pub returns : goal.returns
-returns c = let a = c.before.before.args in put_three a.text.now a.letter a.v c.before.before.requires.0 c.if-v-lt100.false c.before.before.requires.1
+returns c = let a = c.args in put_three a.text.now a.letter a.v c.requires.0 c.if-v-lt100.false c.requires.1

@@ -6,15 +6,15 @@ use Rattle.touching_up.proofs.pass.piece_end.Goals as goal
 
 pub returns-then-from-pixel : goal.returns-then-from-pixel
 returns-then-from-pixel c =
-    let a = c.before.before.args in
-    c.least.ensures ∙ sym (end_before_pixel a.from a.pixel a.ending c.before.if-from-pixel.true)
+    let a = c.args in
+    c.least.ensures ∙ sym (end_before_pixel a.from a.pixel a.ending c.if-from-pixel.true)
 
 pub returns-then-pixel-from : goal.returns-then-pixel-from
 returns-then-pixel-from c =
-    let a = c.before.before.args in
+    let a = c.args in
     sym (end_after_pixel a.from a.pixel a.ending c.if-pixel-from.true)
 
 pub returns : goal.returns
 returns c =
-    let a = c.before.before.args in
-    sym (end_of_pixel a.from a.pixel a.ending (omega (arith, c.before.if-from-pixel.false, c.if-pixel-from.false)))
+    let a = c.args in
+    sym (end_of_pixel a.from a.pixel a.ending (omega (arith, c.if-from-pixel.false, c.if-pixel-from.false)))
