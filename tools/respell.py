@@ -141,13 +141,13 @@ EXCEPTIONS = {
     "tooShort": "is_too_short",
     "handedOut": "corners_handed_out",
     "in-column": "in_column_dec",
+    "block-at": "block_at_lem",
     "up-to-counts": "same_up_to_counts",
 }
 # Names of one file or crate that would fall together with a function that is used there.
 PLACES = {
     "crates/printing/specs/Orders.antt": {"in_rows": "in_rows_lem"},
     "crates/chains/specs/": {"last_byte": "last_byte_lem"},
-    "crates/components/specs/Walk.antt": {"block-at": "block_at_lem"},
 }
 
 if __name__ == "__main__":

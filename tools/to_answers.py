@@ -93,6 +93,7 @@ def flat(lines):
 
 def convert(fn_dir, names, modpath):
     src = open(os.path.join(fn_dir, "Proof.antt"), encoding="utf-8").read()
+    src = re.sub(r"(?<=\.)«([\w-]+)»", r"\1", src)
     needs, at = {}, {}
     for (o, n), a in zip(names["needs"], names["asked_at"] if len(names["asked_at"]) == len(names["needs"]) else [None] * len(names["needs"])):
         needs[norm(o)] = n
@@ -117,6 +118,7 @@ def convert(fn_dir, names, modpath):
     variables = {v for _, vs in loops.values() for v in vs}
     uses, invs, answers, head, helpers, kept, labels, searched = [], [], [], [], {}, [], {}, {}
     warn = []
+    hoisted = {}
     for it in items(src):
         body = [l for l in it if not l.startswith("--")]
         comm = [l for l in it if l.startswith("--")]
@@ -169,6 +171,12 @@ def convert(fn_dir, names, modpath):
                 ty = text[m.end(1) + 2: mm.start()].strip()
                 res = flat([l for l in ty.split("\n") if not l.startswith("unfolding")])
                 is_place = re.search(r"(?:→ |^)tie\." + W + r"(?: (?:invariant|decreases)-" + W + r")*$", res)
+                abbreviation = text.startswith(("abbrev", "pub abbrev", "unfoldable"))
+                if len(params) == 1 and not is_place and not abbreviation:
+                    p = re.match(r"\(" + re.escape(params[0]) + r" : tie\.[^()]*\)\s*→\s*(.*)$", res) or re.match(r"tie\." + W + r"(?: (?:invariant|decreases)-" + W + r")*\s*→\s*(.*)$", res)
+                    if p:
+                        hoisted[name] = (p.group(1), params[0], mm.group(2).strip("\n"), unf)
+                        continue
                 helpers[name] = (params, b, unf, bool(is_place), res)
                 continue
         kept.append("\n".join(comm + body))
@@ -196,7 +204,7 @@ def convert(fn_dir, names, modpath):
             if root in ("goal", "tie", "Rattle") or root[0].isupper(): return m.group(0)
             rest = [x for x in rest if x != "before"]
             if not rest: return root
-            w = rest[0]
+            w = rest[0] = {"pre": "requires", "well-formed": "well_formed", "type-inv": "type_inv"}.get(rest[0], rest[0])
             key = norm(w)
             known = {s for s, _, _ in both}
             if key not in known and key.endswith("-lem") and key[:-4] in known: key = key[:-4]
@@ -208,6 +216,11 @@ def convert(fn_dir, names, modpath):
                         if norm(os_) == key and op and rest[1:1 + len(op)] == list(op):
                             if hit is None or len(op) > hit[0]: hit = (len(op), arm[0], nf)
                 if hit: break
+            if not hit and len(rest) > 1 and rest[1] == "rest":
+                for s, n, arm in ch:
+                    if arm and s == key and any(norm(o) == key and not op and nf.endswith("-own") for nf, o, op in arm[2]):
+                        nf = next(nf for nf, o, op in arm[2] if norm(o) == key and not op)
+                        hit = (0, arm[0], nf); break
             if hit:
                 rest = [hit[1], hit[2]] + rest[1 + hit[0]:]
             elif w not in ("args", "requires", "result", "ensures", "ranges"):
@@ -236,6 +249,40 @@ def convert(fn_dir, names, modpath):
     for comm, new, unf, args, rhs, label in answers:
         used = set()
         t = drop_before(rhs)
+        order, unfs = [], []
+        def need(text, seen=()):
+            for h in hoisted:
+                if h in seen or h in order: continue
+                if re.search(r"(?<![\w.'₀-₉-])" + re.escape(h) + r"(?![\w'₀-₉-])", text):
+                    need(hoisted[h][2], seen + (h,))
+                    if h not in order: order.append(h); unfs.extend(hoisted[h][3])
+        need(t)
+        for h in list(helpers):
+            if re.search(r"(?<![\w.'₀-₉-])" + re.escape(h) + r"(?![\w'₀-₉-])", t): need(helpers[h][1])
+        def unapply(text):
+            text = drop_before(text)
+            for h in hoisted:
+                while True:
+                    m = re.search(r"(?<![\w.'₀-₉-])" + re.escape(h) + r"(?![\w'₀-₉-])(?= )", text)
+                    if not m: break
+                    a = atom(text, m.end())
+                    if a is None: break
+                    b, e = m.start(), a[1]
+                    # a path behind the argument's bracket belongs to the argument
+                    if b and text[b-1] == "(" and e < len(text) and text[e] == ")": b, e = b - 1, e + 1
+                    text = text[:b] + h + "\0" + text[e:]
+            return text.replace("\0", "")
+        t = unapply(t)
+        pre = ""
+        for h in order:
+            ty, p, b, _ = hoisted[h]
+            b2 = unapply(re.sub(r"(?<![\w.'₀-₉-])" + re.escape(p) + r"(?![\w'₀-₉-])", "c", drop_before(b)))
+            ty2 = unapply(re.sub(r"(?<![\w.'₀-₉-])" + re.escape(p) + r"(?![\w'₀-₉-])", "c", drop_before(ty)))
+            pre += f"    let {h} : {ty2} =" + (("\n" + "\n".join("    " + x for x in b2.split("\n"))) if "\n" in b2 else " " + b2.strip()) + " in\n"
+        if pre:
+            body = t.strip("\n")
+            t = "\n" + pre + (body if body.startswith(" ") and "\n" in body else "    " + body.strip())
+        if unfs: unf = unf + ["unfolding " + " ".join(unfs)]
         for _ in range(8):
             hit = [h for h in table if re.search(r"(?<![\w.'₀-₉-])" + re.escape(h) + r"(?![\w'₀-₉-])", t)]
             if not hit: break
@@ -245,7 +292,7 @@ def convert(fn_dir, names, modpath):
         t = ID.sub(lambda m: labels[m.group(1)] if m.group(1) in labels and m.group(1) not in ("returns",) and labels[m.group(1)] != m.group(1) else m.group(1), t)
         if re.search(r"(?<![\w.'₀-₉-])returns c", t): t = re.sub(r"(?<![\w.'₀-₉-])returns (?=c)", labels.get("returns", "returns") + " ", t)
         more = [u for h in used for u in helpers[h][2]]
-        if more:
+        if more or unfs:
             ws = " ".join(unf).replace("unfolding", "").split() + " ".join(more).split()
             unf = ["unfolding " + " ".join(dict.fromkeys(ws))]
         for lab in list(searched):

@@ -9,7 +9,7 @@ use Rattle.quadtree.specs.Accepted.{Passes, number-zero}
 use Rattle.quadtree.specs.BlockLists.{BlockList, blocks_of, image_of, number_of}
 use Rattle.staircase.specs.FirstBlocks.{all_pixels}
 use Rattle.components.specs.Holders.{pixels_with, first_pixels_in_image, held_colour}
-use Rattle.components.specs.Walk.{block_at, block-count, inside, level_is, first-is, level_at_most}
+use Rattle.components.specs.Walk.{block_at_lem, block-count, inside, level_is, first-is, level_at_most}
 
 -- The code after the last pixel of the block at the place i.
 abbrev pub end_at : BlockList → ℕ → ℕ
@@ -60,7 +60,7 @@ module _ (n : ℕ) (a : BlockList) (accepted : number_of n a ≡ 0) where
         in_image = fits;
         coloured = λ c low high.
             held_colour (blocks_of a) i c (record { place = inside passes i h; from = omega (arith, first-is passes i h); before = omega (arith, end_is i h) })
-            ∙ ap (λ (b : Block). b.colour) (block_at a.codes a.levels a.colours passes.equal_levels passes.equal_colours i h);
+            ∙ ap (λ (b : Block). b.colour) (block_at_lem a.codes a.levels a.colours passes.equal_levels passes.equal_colours i h);
       }
 
   -- Before the first pixel, and one step on, to a code d no farther than the end of the block.

@@ -25,4 +25,4 @@ pub shape_of-colours : goal.shape_of-colours
 shape_of-colours c = (same_lengths c.requires.writable c.write_run-count.ensures).for_colours
 
 pub returns : goal.returns
-returns c = appended_other c.pre c.if-colour-pending.false c.write_run-count.ensures
+returns c = appended_other c.requires c.if-colour-pending.false c.write_run-count.ensures

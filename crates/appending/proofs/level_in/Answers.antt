@@ -20,13 +20,13 @@ overflow_add-from c =
     omega (arith, pre.some, run_small pre, square_small pre c.loop-n.invariant c.pixels.ensures)
 
 pub returns-then-from-pixels : goal.returns-then-from-pixels
-returns-then-from-pixels c = level_found c.pre c.loop-n.invariant c.pixels.ensures c.if-from-pixels.true
+returns-then-from-pixels c = level_found c.requires c.loop-n.invariant c.pixels.ensures c.if-from-pixels.true
 
 pub overflow_sub-level : goal.overflow_sub-level
-overflow_sub-level c = level_positive c.pre c.loop-n.invariant c.pixels.ensures c.if-from-pixels.false
+overflow_sub-level c = level_positive c.requires c.loop-n.invariant c.pixels.ensures c.if-from-pixels.false
 
 pub loop-n-smaller : goal.loop-n-smaller
 loop-n-smaller c = omega (arith, overflow_sub-level c)
 
 pub loop-n-preserved : goal.loop-n-preserved
-loop-n-preserved c = level_next c.pre c.loop-n.invariant c.pixels.ensures c.if-from-pixels.false
+loop-n-preserved c = level_next c.requires c.loop-n.invariant c.pixels.ensures c.if-from-pixels.false

@@ -1,4 +1,5 @@
 -- One case for each digit.
+use mathlib.Core.Path.{◌≡◌}
 use native.Mathlib.Omega.{arith}
 use Rattle.cycles.specs.Straight.{edge_with, gone_with}
 use Rattle.cycle_checks.proofs.along.Goals as goal
@@ -13,7 +14,9 @@ pub straight-requires-in-2 : goal.straight-requires-in-2
 straight-requires-in-2 c = edge_with c.in-2.is c.requires
 
 pub straight-requires-in_default : goal.straight-requires-in_default
-straight-requires-in_default c = edge_with (omega (arith, c.requires.low, c.in_default.rest)) c.requires
+straight-requires-in_default c =
+    let south : c.args.d ≡ 3 = omega (arith, c.requires.low, c.in_default.in_default-own.rest) in
+    edge_with south c.requires
 
 pub returns-in-0 : goal.returns-in-0
 returns-in-0 c = gone_with c.in-0.is c.straight.ensures
@@ -25,4 +28,6 @@ pub returns-in-2 : goal.returns-in-2
 returns-in-2 c = gone_with c.in-2.is c.straight-in-2.ensures
 
 pub returns-in_default : goal.returns-in_default
-returns-in_default c = gone_with (omega (arith, c.requires.low, c.in_default.rest)) c.straight-in_default.ensures
+returns-in_default c =
+    let south : c.args.d ≡ 3 = omega (arith, c.requires.low, c.in_default.in_default-own.rest) in
+    gone_with south c.straight-in_default.ensures

@@ -15,16 +15,16 @@ pub returns-then-owner-ge-MARK_BIT : goal.returns-then-owner-ge-MARK_BIT
 returns-then-owner-ge-MARK_BIT c = no_region c.requires c.args.owner c.args.points.now c.if-owner-ge-MARK_BIT.true
 
 pub overflow_cast-side : goal.overflow_cast-side
-overflow_cast-side c = omega (arith, (square-here c.pre c.args.owner c.args.points.now c.side-side.ensures).small)
+overflow_cast-side c = omega (arith, (square-here c.requires c.args.owner c.args.points.now c.side-side.ensures).small)
 
 pub begins-requires : goal.begins-requires
-begins-requires c = (square-here c.pre c.args.owner c.args.points.now c.side-side.ensures, omega arith, omega arith, omega (arith, c.if-p.false))
+begins-requires c = (square-here c.requires c.args.owner c.args.points.now c.side-side.ensures, omega arith, omega arith, omega (arith, c.if-p.false))
 
 pub returns-then-not-begins : goal.returns-then-not-begins
-returns-then-not-begins c = no_walk c.pre c.args.owner c.args.points.now c.side-side.ensures c.begins.ensures c.if-not-begins.true
+returns-then-not-begins c = no_walk c.requires c.args.owner c.args.points.now c.side-side.ensures c.begins.ensures c.if-not-begins.true
 
 pub walk-requires : goal.walk-requires
 walk-requires c = (granted c.begins.ensures c.if-not-begins.false, omega arith, c.requires.spread)
 
 pub returns : goal.returns
-returns c = walked c.pre c.args.owner c.args.points.now c.side-side.ensures (granted c.begins.ensures c.if-not-begins.false) c.walk.ensures
+returns c = walked c.requires c.args.owner c.args.points.now c.side-side.ensures (granted c.begins.ensures c.if-not-begins.false) c.walk.ensures

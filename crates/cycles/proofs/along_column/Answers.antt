@@ -1,4 +1,5 @@
 -- One case for each digit of a column.
+use mathlib.Core.Path.{◌≡◌}
 use native.Mathlib.Omega.{arith}
 use Rattle.cycles.specs.Straight.{edge_with, gone_with}
 use Rattle.cycles.proofs.along_column.Goals as goal
@@ -7,10 +8,14 @@ pub straight-requires : goal.straight-requires
 straight-requires c = edge_with c.in-1.is c.requires.0
 
 pub straight-requires-in_default : goal.straight-requires-in_default
-straight-requires-in_default c = edge_with (omega (arith, c.requires.0.low, c.requires.1, c.in_default.rest)) c.requires.0
+straight-requires-in_default c =
+    let south : c.args.d ≡ 3 = omega (arith, c.requires.0.low, c.requires.1, c.in_default.in_default-own.rest) in
+    edge_with south c.requires.0
 
 pub returns-in-1 : goal.returns-in-1
 returns-in-1 c = gone_with c.in-1.is c.straight.ensures
 
 pub returns-in_default : goal.returns-in_default
-returns-in_default c = gone_with (omega (arith, c.requires.0.low, c.requires.1, c.in_default.rest)) c.straight-in_default.ensures
+returns-in_default c =
+    let south : c.args.d ≡ 3 = omega (arith, c.requires.0.low, c.requires.1, c.in_default.in_default-own.rest) in
+    gone_with south c.straight-in_default.ensures

@@ -6,13 +6,13 @@ pub loop-v-init : goal.loop-v-init
 loop-v-init c = counted_none
 
 pub count_child-requires : goal.count_child-requires
-count_child-requires c = can_count_one c.pre c.loop-v.invariant c.loop-v-test.true
+count_child-requires c = can_count_one c.requires c.loop-v.invariant c.loop-v-test.true
 
 pub loop-v-preserved : goal.loop-v-preserved
-loop-v-preserved c = counted_more c.pre c.loop-v.invariant c.loop-v-test.true c.count_child.ensures
+loop-v-preserved c = counted_more c.requires c.loop-v.invariant c.loop-v-test.true c.count_child.ensures
 
 pub shape_of-work : goal.shape_of-work
 shape_of-work c = c.loop-v.invariant.front.long
 
 pub returns : goal.returns
-returns c = counted_all c.pre c.loop-v.invariant c.loop-v-test.false
+returns c = counted_all c.requires c.loop-v.invariant c.loop-v-test.false

@@ -6,10 +6,10 @@ pub loop-v-init : goal.loop-v-init
 loop-v-init c = arranged_none
 
 pub place-at-requires : goal.place-at-requires
-place-at-requires c = can_place c.pre c.loop-v.invariant c.loop-v-test.true
+place-at-requires c = can_place c.requires c.loop-v.invariant c.loop-v-test.true
 
 pub loop-v-preserved : goal.loop-v-preserved
-loop-v-preserved c = arranged_more c.pre c.loop-v.invariant c.loop-v-test.true c.place-at.ensures
+loop-v-preserved c = arranged_more c.requires c.loop-v.invariant c.loop-v-test.true c.place-at.ensures
 
 pub shape_of-work : goal.shape_of-work
 shape_of-work c = c.loop-v.invariant.front.long
@@ -18,4 +18,4 @@ pub shape_of-order : goal.shape_of-order
 shape_of-order c = c.loop-v.invariant.in_order.long
 
 pub returns : goal.returns
-returns c = arranged_all c.pre c.loop-v.invariant c.loop-v-test.false
+returns c = arranged_all c.requires c.loop-v.invariant c.loop-v-test.false

@@ -7,7 +7,7 @@ pub bounds-text-n : goal.bounds-text-n
 bounds-text-n c = omega (arith, end_room c.requires c.svg-written.ensures, c.svg-written.auto.1.0)
 
 pub overflow_add-result : goal.overflow_add-result
-overflow_add-result c = omega (arith, end_room c.requires c.svg-written.ensures, c.well-formed)
+overflow_add-result c = omega (arith, end_room c.requires c.svg-written.ensures, c.well_formed)
 
 pub returns-then-last : goal.returns-then-last
 returns-then-last c = put_ended c.requires c.svg-written.ensures c.if-last.true

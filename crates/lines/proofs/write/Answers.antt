@@ -24,7 +24,7 @@ put_cycle-n-requires c = one_cycle c.loop-k.invariant c.loop-k-test.true c.cycle
 pub overflow_add-at : goal.overflow_add-at
 overflow_add-at c =
     let inside = put_short c.loop-k.invariant c.loop-k-test.true c.cycle-part.ensures.corners_are c.ends_line-last.ensures c.put_cycle-n.ensures in
-    omega (arith, inside, c.loop-k.invariant.long, c.well-formed)
+    omega (arith, inside, c.loop-k.invariant.long, c.well_formed)
 
 pub loop-k-preserved : goal.loop-k-preserved
 loop-k-preserved c = turn c.loop-k.invariant c.loop-k-test.true c.cycle-part.ensures.corners_are c.ends_line-last.ensures c.put_cycle-n.ensures

@@ -1,7 +1,10 @@
+use Rattle.quadtree.specs.Raster.{place}
 use Rattle.squares.specs.BlockByBlock.{painted_none, block_placed, block_fits, same_length as kept}
 use Rattle.mapping.specs.Filling.{paintable, filled_more, label_small, filled_all}
+use mathlib.Core.Path.{◌≡◌}
 use Prim.Native.Nat.{◌-◌}
 use native.Mathlib.Omega.{arith}
+use lib.ListN.{get_or}
 use Rattle.mapping.proofs.fill_map.Goals as goal
 
 pub loop-i-init : goal.loop-i-init
@@ -11,17 +14,20 @@ pub overflow_cast-levels : goal.overflow_cast-levels
 overflow_cast-levels c = omega (arith, c.shared_slice_known-in-loop-i-1.given c.loop-i.i)
 
 pub bounds-labels-i : goal.bounds-labels-i
-bounds-labels-i c = omega (arith, c.pre.labels_too)
+bounds-labels-i c = omega (arith, c.requires.labels_too)
 
 pub overflow_add-labels : goal.overflow_add-labels
-overflow_add-labels c = omega (arith, label_small c.pre c.loop-i.i c.loop-i-test.true)
+overflow_add-labels c = omega (arith, label_small c.requires c.loop-i.i c.loop-i-test.true)
 
 pub fill_square-requires : goal.fill_square-requires
-fill_square-requires c = block_fits (paintable c.pre) c.loop-i.invariant c.loop-i-test.true (block_placed (paintable c.pre) c.loop-i.invariant c.loop-i-test.true c.place-at.ensures) c.side-s.ensures
+fill_square-requires c =
+    let placed : c.place-at.result ≡ place c.args.n (get_or c.args.codes.now c.loop-i.i 0) = block_placed (paintable c.requires) c.loop-i.invariant c.loop-i-test.true c.place-at.ensures in
+    block_fits (paintable c.requires) c.loop-i.invariant c.loop-i-test.true placed c.side-s.ensures
 
 pub loop-i-preserved : goal.loop-i-preserved
 loop-i-preserved c =
-    filled_more c.pre c.loop-i.invariant c.loop-i-test.true (block_placed (paintable c.pre) c.loop-i.invariant c.loop-i-test.true c.place-at.ensures) c.side-s.ensures
+    let placed : c.place-at.result ≡ place c.args.n (get_or c.args.codes.now c.loop-i.i 0) = block_placed (paintable c.requires) c.loop-i.invariant c.loop-i-test.true c.place-at.ensures in
+    filled_more c.requires c.loop-i.invariant c.loop-i-test.true placed c.side-s.ensures
     c.fill_square.ensures
 
 pub shape_of-map : goal.shape_of-map

@@ -10,16 +10,16 @@ pub parent_at-requires : goal.parent_at-requires
 parent_at-requires c = least_here c.requires c.column-x.ensures c.row-y.ensures
 
 pub offset_bounds-work-at : goal.offset_bounds-work-at
-offset_bounds-work-at c = omega (arith, parent_place c.pre c.column-x.ensures c.row-y.ensures c.pixels.ensures)
+offset_bounds-work-at c = omega (arith, parent_place c.requires c.column-x.ensures c.row-y.ensures c.pixels.ensures)
 
 pub bounds-work-at : goal.bounds-work-at
-bounds-work-at c = (parent_place c.pre c.column-x.ensures c.row-y.ensures c.pixels.ensures).0
+bounds-work-at c = (parent_place c.requires c.column-x.ensures c.row-y.ensures c.pixels.ensures).0
 
 pub mark_south_sides-requires : goal.mark_south_sides-requires
-mark_south_sides-requires c = cycle-starts c.pre c.column-x.ensures c.row-y.ensures c.pixels.ensures c.parent_at.ensures
+mark_south_sides-requires c = cycle-starts c.requires c.column-x.ensures c.row-y.ensures c.pixels.ensures c.parent_at.ensures
 
 pub returns : goal.returns
-returns c = region_settled c.pre c.column-x.ensures c.row-y.ensures c.pixels.ensures c.parent_at.ensures c.mark_south_sides.ensures
+returns c = region_settled c.requires c.column-x.ensures c.row-y.ensures c.pixels.ensures c.parent_at.ensures c.mark_south_sides.ensures
 
 pub shape_of-work : goal.shape_of-work
 shape_of-work c = (returns c).long

@@ -1,6 +1,8 @@
 -- A bad header is answered 10; the fields of a good one are judged, and the raster begins inside the bytes.
 use mathlib.Core.Path.{refl, sym, ap, ◌∙◌}
+use Prim.Native.Nat.{◌≤◌}
 use native.Mathlib.Omega.{arith}
+use lib.ListN.{length}
 use Rattle.sequences.specs.Tails.{tail-lent}
 use Rattle.headers.specs.Header.{Fields}
 use Rattle.headers.specs.Sequence.{head-bad, head_on, head-inside}
@@ -10,10 +12,14 @@ use Rattle.pgm.specs.Judging.{nothing_answered, file_answered}
 use Rattle.pgm.proofs.read.Goals as goal
 
 pub slice_bounds-judge-count : goal.slice_bounds-judge-count
-slice_bounds-judge-count c = (head-inside c.parse.ensures c.in-Fields.is)
+slice_bounds-judge-count c =
+    let inside : c.in-Fields.rest.at ≤ length c.args.bytes.now = head-inside c.parse.ensures c.in-Fields.is in
+    inside
 
 pub slice_bounds-judge-start : goal.slice_bounds-judge-start
-slice_bounds-judge-start c = (head-inside c.parse.ensures c.in-Fields.is)
+slice_bounds-judge-start c =
+    let inside : c.in-Fields.rest.at ≤ length c.args.bytes.now = head-inside c.parse.ensures c.in-Fields.is in
+    inside
 
 pub returns-in-Bad : goal.returns-in-Bad
 unfolding scan picture

@@ -1,5 +1,6 @@
 -- The check leaves a map of the image's numbers, from which the blocks are written; either way the list is cleared from end to end.
-use mathlib.Core.Path.{ap, ◌∙◌}
+use mathlib.Core.Path.{◌≡◌, ap, ◌∙◌}
+use Prim.Native.Nat.{◌*◌, ◌^◌}
 use native.Mathlib.Omega.{arith}
 use lib.ListN.{length}
 use Rattle.sequences.specs.Fill.{length-fill}
@@ -8,15 +9,18 @@ use Rattle.restoring.specs.Restored.{paintable, all_given_back, none_given_back,
 use Rattle.restoring.proofs.restore.Goals as goal
 
 pub no_image-requires : goal.no_image-requires
-no_image-requires c = omega (arith, (c.has_image.ensures.long ∙ c.requires.judgeable.room), c.requires.judgeable.room)
+no_image-requires c =
+    let still-long : length c.has_image.new.1.1.1.1.1.0 ≡ 8 * 4 ^ c.args.n = c.has_image.ensures.long ∙ c.requires.judgeable.room in
+    omega (arith, still-long, c.requires.judgeable.room)
 
 pub shape_of-work-then-not-has_image : goal.shape_of-work-then-not-has_image
 shape_of-work-then-not-has_image c = ap length c.no_image.ensures.1 ∙ length-fill c.has_image.last.1.1.1.1.1.0 0 (length c.args.work.now) 0 ∙ c.has_image.ensures.long
 
 pub returns-then-not-has_image : goal.returns-then-not-has_image
 returns-then-not-has_image c =
-    none_given_back c.pre (c.has_image.ensures.none c.if-not-has_image.true) c.no_image.ensures.0
-    (cleared c.has_image.last.1.1.1.1.1.0 (c.has_image.ensures.long ∙ c.requires.judgeable.room) c.pre.judgeable.room c.no_image.ensures.1)
+    let still-long : length c.has_image.new.1.1.1.1.1.0 ≡ 8 * 4 ^ c.args.n = c.has_image.ensures.long ∙ c.requires.judgeable.room in
+    none_given_back c.requires (c.has_image.ensures.none c.if-not-has_image.true) c.no_image.ensures.0
+    (cleared c.has_image.last.1.1.1.1.1.0 still-long c.requires.judgeable.room c.no_image.ensures.1)
 
 pub write_blocks-count-requires : goal.write_blocks-count-requires
 write_blocks-count-requires c = paintable c.requires (c.has_image.ensures.found c.if-not-has_image.false)
@@ -25,7 +29,9 @@ pub overflow_cast-count : goal.overflow_cast-count
 overflow_cast-count c = omega (arith, c.write_blocks-count.ensures.few, pow4_mono c.requires.judgeable.small)
 
 pub fill-requires : goal.fill-requires
-fill-requires c = omega (arith, (c.has_image.ensures.long ∙ c.requires.judgeable.room), c.pre.judgeable.room)
+fill-requires c =
+    let still-long : length c.has_image.new.1.1.1.1.1.0 ≡ 8 * 4 ^ c.args.n = c.has_image.ensures.long ∙ c.requires.judgeable.room in
+    omega (arith, still-long, c.requires.judgeable.room)
 
 pub shape_of-codes : goal.shape_of-codes
 shape_of-codes c = c.write_blocks-count.ensures.same.for_codes
@@ -41,5 +47,6 @@ shape_of-work c = ap length c.fill.ensures ∙ length-fill c.has_image.last.1.1.
 
 pub returns : goal.returns
 returns c =
-    all_given_back c.pre (c.has_image.ensures.found c.if-not-has_image.false) c.write_blocks-count.ensures
-    (cleared c.has_image.last.1.1.1.1.1.0 (c.has_image.ensures.long ∙ c.requires.judgeable.room) c.pre.judgeable.room c.fill.ensures)
+    let still-long : length c.has_image.new.1.1.1.1.1.0 ≡ 8 * 4 ^ c.args.n = c.has_image.ensures.long ∙ c.requires.judgeable.room in
+    all_given_back c.requires (c.has_image.ensures.found c.if-not-has_image.false) c.write_blocks-count.ensures
+    (cleared c.has_image.last.1.1.1.1.1.0 still-long c.requires.judgeable.room c.fill.ensures)

@@ -1,6 +1,6 @@
-use Prim.Native.Nat.{◌-◌}
+use Prim.Native.Nat.{◌-◌, ◌≤◌, ◌<◌}
 use native.Mathlib.Omega.{arith}
-use lib.ListN.{get_or}
+use lib.ListN.{length, get_or}
 use Rattle.lattice.specs.Directions.{x_of, y_of}
 use Rattle.retracing.specs.Ranks.{rank_low}
 use Rattle.retracing.specs.Checking.{begin, finish, checkable, end_not_before, end_inside, owner-inside, long_then, not_a_cycle}
@@ -17,44 +17,59 @@ pub bounds-owners-k : goal.bounds-owners-k
 bounds-owners-k c = owner-inside c.requires.0 c.loop-k.invariant c.loop-k-test.true
 
 pub offset_bounds-corners-begin : goal.offset_bounds-corners-begin
-offset_bounds-corners-begin c = omega (arith, (end_not_before c.requires.0 c.loop-k.invariant c.loop-k-test.true), (end_inside c.requires.0 c.loop-k.invariant c.loop-k-test.true))
+offset_bounds-corners-begin c =
+    let part-begins : let l = c.loop-k in l.begin ≤ get_or c.args.ends.now l.k 0 = end_not_before c.requires.0 c.loop-k.invariant c.loop-k-test.true in
+    let part-ends : let a = c.args in get_or a.ends.now c.loop-k.k 0 ≤ length a.corners.now = end_inside c.requires.0 c.loop-k.invariant c.loop-k-test.true in
+    omega (arith, part-begins, part-ends)
 
 pub slice_bounds-cycle_agrees-count : goal.slice_bounds-cycle_agrees-count
-slice_bounds-cycle_agrees-count c = (end_not_before c.requires.0 c.loop-k.invariant c.loop-k-test.true)
+slice_bounds-cycle_agrees-count c =
+    let part-begins : let l = c.loop-k in l.begin ≤ get_or c.args.ends.now l.k 0 = end_not_before c.requires.0 c.loop-k.invariant c.loop-k-test.true in
+    part-begins
 
 pub slice_bounds-cycle_agrees-start : goal.slice_bounds-cycle_agrees-start
-slice_bounds-cycle_agrees-start c = (end_not_before c.requires.0 c.loop-k.invariant c.loop-k-test.true)
+slice_bounds-cycle_agrees-start c =
+    let part-begins : let l = c.loop-k in l.begin ≤ get_or c.args.ends.now l.k 0 = end_not_before c.requires.0 c.loop-k.invariant c.loop-k-test.true in
+    part-begins
 
 pub slice_bounds-cycle_agrees-end : goal.slice_bounds-cycle_agrees-end
-slice_bounds-cycle_agrees-end c = (end_inside c.requires.0 c.loop-k.invariant c.loop-k-test.true)
+slice_bounds-cycle_agrees-end c =
+    let part-ends : let a = c.args in get_or a.ends.now c.loop-k.k 0 ≤ length a.corners.now = end_inside c.requires.0 c.loop-k.invariant c.loop-k-test.true in
+    part-ends
 
 pub cycle_agrees-requires : goal.cycle_agrees-requires
 cycle_agrees-requires c = checkable c.requires.0 c.loop-k.invariant c.requires.1
 
 pub shape_of-map-then-not-cycle_agrees : goal.shape_of-map-then-not-cycle_agrees
-shape_of-map-then-not-cycle_agrees c = long_then c.pre.0 c.loop-k.invariant c.loop-k-test.true c.cycle_agrees.ensures
+shape_of-map-then-not-cycle_agrees c = long_then c.requires.0 c.loop-k.invariant c.loop-k-test.true c.cycle_agrees.ensures
 
 pub returns-then-not-cycle_agrees : goal.returns-then-not-cycle_agrees
-returns-then-not-cycle_agrees c = not_a_cycle c.pre.0 c.loop-k.invariant c.loop-k-test.true c.cycle_agrees.ensures c.if-not-cycle_agrees.true
+returns-then-not-cycle_agrees c = not_a_cycle c.requires.0 c.loop-k.invariant c.loop-k-test.true c.cycle_agrees.ensures c.if-not-cycle_agrees.true
 
 pub offset_bounds-corners-begin-in-loop-k : goal.offset_bounds-corners-begin-in-loop-k
-offset_bounds-corners-begin-in-loop-k c = omega (arith, (corner-inside c.pre.0 c.loop-k.invariant c.loop-k-test.true c.cycle_agrees.ensures c.if-not-cycle_agrees.false))
+offset_bounds-corners-begin-in-loop-k c =
+    let corner-there : c.loop-k.begin < length c.args.corners.now =
+    corner-inside c.requires.0 c.loop-k.invariant c.loop-k-test.true c.cycle_agrees.ensures c.if-not-cycle_agrees.false in
+    omega (arith, corner-there)
 
 pub bounds-corners-begin : goal.bounds-corners-begin
-bounds-corners-begin c = (corner-inside c.pre.0 c.loop-k.invariant c.loop-k-test.true c.cycle_agrees.ensures c.if-not-cycle_agrees.false)
+bounds-corners-begin c =
+    let corner-there : c.loop-k.begin < length c.args.corners.now =
+    corner-inside c.requires.0 c.loop-k.invariant c.loop-k-test.true c.cycle_agrees.ensures c.if-not-cycle_agrees.false in
+    corner-there
 
 pub rank-r-requires : goal.rank-r-requires
 rank-r-requires c = (
-  c.pre.1,
-  x_low c.pre.0 c.loop-k.invariant c.loop-k-test.true c.cycle_agrees.ensures c.if-not-cycle_agrees.false,
-  y_low c.pre.0 c.loop-k.invariant c.loop-k-test.true c.cycle_agrees.ensures c.if-not-cycle_agrees.false,
+  c.requires.1,
+  x_low c.requires.0 c.loop-k.invariant c.loop-k-test.true c.cycle_agrees.ensures c.if-not-cycle_agrees.false,
+  y_low c.requires.0 c.loop-k.invariant c.loop-k-test.true c.cycle_agrees.ensures c.if-not-cycle_agrees.false,
 )
 
 pub shape_of-map-then-r-least : goal.shape_of-map-then-r-least
-shape_of-map-then-r-least c = long_then c.pre.0 c.loop-k.invariant c.loop-k-test.true c.cycle_agrees.ensures
+shape_of-map-then-r-least c = long_then c.requires.0 c.loop-k.invariant c.loop-k-test.true c.cycle_agrees.ensures
 
 pub returns-then-r-least : goal.returns-then-r-least
-returns-then-r-least c = out_of_order c.pre.0 c.loop-k.invariant c.loop-k-test.true c.cycle_agrees.ensures c.if-not-cycle_agrees.false c.rank-r.ensures c.if-r-least.true
+returns-then-r-least c = out_of_order c.requires.0 c.loop-k.invariant c.loop-k-test.true c.cycle_agrees.ensures c.if-not-cycle_agrees.false c.rank-r.ensures c.if-r-least.true
 
 pub overflow_add-least : goal.overflow_add-least
 overflow_add-least c =
@@ -68,7 +83,7 @@ pub loop-k-smaller : goal.loop-k-smaller
 loop-k-smaller c = omega (arith, c.loop-k-test.true)
 
 pub loop-k-preserved : goal.loop-k-preserved
-loop-k-preserved c = again c.pre.0 c.loop-k.invariant c.loop-k-test.true c.cycle_agrees.ensures c.if-not-cycle_agrees.false c.rank-r.ensures c.if-r-least.false
+loop-k-preserved c = again c.requires.0 c.loop-k.invariant c.loop-k-test.true c.cycle_agrees.ensures c.if-not-cycle_agrees.false c.rank-r.ensures c.if-r-least.false
 
 pub shape_of-map : goal.shape_of-map
 shape_of-map c = c.loop-k.invariant.long

@@ -1,5 +1,5 @@
 -- Each test is the definition's, in its order; the queue is what stands in the first places.
-use mathlib.Core.Path.{sym, ap, ◌∙◌}
+use mathlib.Core.Path.{◌≡◌, sym, ap, ◌∙◌}
 use mathlib.Core.List.{List, ◌∷◌, ◌++◌}
 use Prim.Native.Nat.{min}
 use native.Mathlib.Omega.{arith}
@@ -16,26 +16,41 @@ returns-then-count-cycle c = let a = c.args in refuses a.state a.cycle a.count 2
 pub returns-then-is_open : goal.returns-then-is_open
 unfolding queue_of
 returns-then-is_open c =
+    let looked : let a = c.args in is_open a.cycle (queue_of a.state) ≡ c.is_open.result =
+    let a = c.args in
+    ap (λ j. is_open a.cycle (take j a.state.outlines)) (sym c.open_count-size.ensures) ∙ sym c.is_open.ensures.0 in
     let a = c.args in
     refuses a.state a.cycle a.count 22
-    (already_open (queue_of a.state) a.cycle a.count c.if-count-cycle.false ((let a = c.args in ap (λ j. is_open a.cycle (take j a.state.outlines)) (sym c.open_count-size.ensures) ∙ sym c.is_open.ensures.0) ∙ c.if-is_open.true))
+    (already_open (queue_of a.state) a.cycle a.count c.if-count-cycle.false (looked ∙ c.if-is_open.true))
 
 pub returns-then-size-ge8 : goal.returns-then-size-ge8
 unfolding queue_of
 returns-then-size-ge8 c =
+    let looked : let a = c.args in is_open a.cycle (queue_of a.state) ≡ c.is_open.result =
+    let a = c.args in
+    ap (λ j. is_open a.cycle (take j a.state.outlines)) (sym c.open_count-size.ensures) ∙ sym c.is_open.ensures.0 in
+    let sized : length (queue_of c.args.state) ≡ c.open_count-size.result =
+    let a = c.args in
+    omega (arith, c.open_count-size.ensures, c.is_open.ensures.1, length-take (min 8 a.state.length) a.state.outlines) in
     let a = c.args in
     refuses a.state a.cycle a.count 23
-    (eight_open (queue_of a.state) a.cycle a.count c.if-count-cycle.false ((let a = c.args in ap (λ j. is_open a.cycle (take j a.state.outlines)) (sym c.open_count-size.ensures) ∙ sym c.is_open.ensures.0) ∙ c.if-is_open.false)
-    (omega (arith, (let a = c.args in omega (arith, c.open_count-size.ensures, c.is_open.ensures.1, length-take (min 8 a.state.length) a.state.outlines)), c.if-size-ge8.true)))
+    (eight_open (queue_of a.state) a.cycle a.count c.if-count-cycle.false (looked ∙ c.if-is_open.false)
+    (omega (arith, sized, c.if-size-ge8.true)))
 
 pub returns : goal.returns
 unfolding queue_of joined
 returns c =
+    let looked : let a = c.args in is_open a.cycle (queue_of a.state) ≡ c.is_open.result =
+    let a = c.args in
+    ap (λ j. is_open a.cycle (take j a.state.outlines)) (sym c.open_count-size.ensures) ∙ sym c.is_open.ensures.0 in
+    let sized : length (queue_of c.args.state) ≡ c.open_count-size.result =
+    let a = c.args in
+    omega (arith, c.open_count-size.ensures, c.is_open.ensures.1, length-take (min 8 a.state.length) a.state.outlines) in
     let a = c.args in
     let q : List OpenOutline = queue_of a.state in
     let new : OpenOutline = record { cycle = a.cycle; handed = 0 } in
     let kept = c.with_last.ensures ∙ ap (λ j. in_eight (take j a.state.outlines ++ new ∷ [])) c.open_count-size.ensures in
     accepts a.state a.cycle a.count _
-    (may_open q a.cycle a.count c.if-count-cycle.false ((let a = c.args in ap (λ j. is_open a.cycle (take j a.state.outlines)) (sym c.open_count-size.ensures) ∙ sym c.is_open.ensures.0) ∙ c.if-is_open.false)
-    (omega (arith, (let a = c.args in omega (arith, c.open_count-size.ensures, c.is_open.ensures.1, length-take (min 8 a.state.length) a.state.outlines)), c.if-size-ge8.false)))
-    (holds_queue (q ++ new ∷ []) kept (omega (arith, (let a = c.args in omega (arith, c.open_count-size.ensures, c.is_open.ensures.1, length-take (min 8 a.state.length) a.state.outlines)), length-append q (new ∷ []))))
+    (may_open q a.cycle a.count c.if-count-cycle.false (looked ∙ c.if-is_open.false)
+    (omega (arith, sized, c.if-size-ge8.false)))
+    (holds_queue (q ++ new ∷ []) kept (omega (arith, sized, length-append q (new ∷ []))))

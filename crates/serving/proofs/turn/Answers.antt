@@ -4,6 +4,7 @@ use mathlib.Core.List.{List, ◌∷◌}
 use Prim.Native.Nat.{ℕ, ◌-◌, ◌<◌, min}
 use native.Mathlib.Omega.{arith}
 use lib.ListN.{length, take, drop}
+use Rattle.stretches.specs.Stretch.{stretch_of}
 use Rattle.serving.specs.declared.OpenOutline.{OpenOutline}
 use Rattle.serving.specs.Queue.{lists, stretch_in, due_of, corners_handed_out, after_serving}
 use Rattle.serving.specs.Bounds.{stretch_short}
@@ -21,17 +22,27 @@ returns-then-size-eq0 c =
 
 pub after_serving-requires : goal.after_serving-requires
 after_serving-requires c =
+    let due-is : let a = c.args in c.still_due-due.result ≡ length (stretch_of a.corners.now a.ends.now a.count (front a.state.outlines).cycle-stretch) - (front a.state.outlines).handed =
     let a = c.args in
-    (search rules, search rules, λ more. omega (arith, more, (let a = c.args in c.still_due-due.ensures ∙ ap (λ (l : List ℕ). length l - (front a.state.outlines).handed) c.cycle-stretch.ensures.corners_are), (let a = c.args in let k : ℕ = (front a.state.outlines).cycle-stretch in stretch_short a.corners.now a.ends.now a.count k (omega (arith, c.shared_slice_known-2-1.given k)))))
+    c.still_due-due.ensures ∙ ap (λ (l : List ℕ). length l - (front a.state.outlines).handed) c.cycle-stretch.ensures.corners_are in
+    let short : let a = c.args in length (stretch_of a.corners.now a.ends.now a.count (front a.state.outlines).cycle-stretch) < 4294967296 =
+    let a = c.args in
+    let k : ℕ = (front a.state.outlines).cycle-stretch in
+    stretch_short a.corners.now a.ends.now a.count k (omega (arith, c.shared_slice_known-2-1.given k)) in
+    let a = c.args in
+    (search rules, search rules, λ more. omega (arith, more, due-is, short))
 
 pub returns : goal.returns
 unfolding queue_of due_of corners_handed_out stretch_in
 returns c =
+    let due-is : let a = c.args in c.still_due-due.result ≡ length (stretch_of a.corners.now a.ends.now a.count (front a.state.outlines).cycle-stretch) - (front a.state.outlines).handed =
+    let a = c.args in
+    c.still_due-due.ensures ∙ ap (λ (l : List ℕ). length l - (front a.state.outlines).handed) c.cycle-stretch.ensures.corners_are in
     let a = c.args in
     let o : OpenOutline = front a.state.outlines in
     let l = lists a.corners.now a.ends.now a.count in
     let behind : List OpenOutline = take (c.open_count-size.result - 1) (drop 1 a.state.outlines) in
-    let due : c.still_due-due.result ≡ due_of l o = (let a = c.args in c.still_due-due.ensures ∙ ap (λ (l : List ℕ). length l - (front a.state.outlines).handed) c.cycle-stretch.ensures.corners_are) in
+    let due : c.still_due-due.result ≡ due_of l o = due-is in
     let some : 0 < c.open_count-size.result = omega (arith, c.if-size-eq0.false) in
     let open_now : queue_of a.state ≡ o ∷ behind =
     ap (λ j. take j a.state.outlines) (sym c.open_count-size.ensures)

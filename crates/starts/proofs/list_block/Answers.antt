@@ -7,7 +7,7 @@ pub overflow_cast-width : goal.overflow_cast-width
 overflow_cast-width c = omega (arith, side_low c.requires, c.side-width.ensures)
 
 pub list_row-requires : goal.list_row-requires
-list_row-requires c = top-row-next c.pre c.column-x.ensures c.row-y.ensures c.side-width.ensures
+list_row-requires c = top-row-next c.requires c.column-x.ensures c.row-y.ensures c.side-width.ensures
 
 pub returns : goal.returns
 returns c =

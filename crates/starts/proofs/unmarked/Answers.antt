@@ -28,10 +28,10 @@ pub offset_bounds-map-i-2 : goal.offset_bounds-map-i-2
 offset_bounds-map-i-2 c = omega (arith, entry-below c.requires c.side-side.ensures)
 
 pub bounds-map-i-2 : goal.bounds-map-i-2
-bounds-map-i-2 c = omega (arith, entry-inside c.pre c.side-side.ensures)
+bounds-map-i-2 c = omega (arith, entry-inside c.requires c.side-side.ensures)
 
 pub returns-then-north-here : goal.returns-then-north-here
-returns-then-north-here c = north_same c.pre c.side-side.ensures c.if-here-ge-MARK_BIT.false c.if-y-eq0.false c.if-north-here.true
+returns-then-north-here c = north_same c.requires c.side-side.ensures c.if-here-ge-MARK_BIT.false c.if-y-eq0.false c.if-north-here.true
 
 pub returns : goal.returns
-returns c = north_other c.pre c.side-side.ensures c.if-here-ge-MARK_BIT.false c.if-y-eq0.false c.if-north-here.false
+returns c = north_other c.requires c.side-side.ensures c.if-here-ge-MARK_BIT.false c.if-y-eq0.false c.if-north-here.false

@@ -7,5 +7,5 @@ use Rattle.steps.proofs.around.Goals as goal
 pub returns : goal.returns
 returns c =
     let m = map_at c.args.side c.args.map.now in
-    c.look.ensures ∙ ap₂ m c.«column-at».ensures c.«row_at».ensures
+    c.look.ensures ∙ ap₂ m c.column_at-column.ensures c.row_at-row.ensures
     ∙ around-point m c.args.x c.args.y c.args.d c.requires.1

@@ -14,7 +14,7 @@ pub returns-then-not-run_alike : goal.returns-then-not-run_alike
 returns-then-not-run_alike c = rows_stop c.loop-y.invariant c.loop-y-test.true (sym c.run_alike.ensures ∙ c.if-not-run_alike.true)
 
 pub overflow_add-from : goal.overflow_add-from
-overflow_add-from c = omega (arith, row_fits c.loop-y.invariant c.loop-y-test.true, c.requires.0, c.well-formed)
+overflow_add-from c = omega (arith, row_fits c.loop-y.invariant c.loop-y-test.true, c.requires.0, c.well_formed)
 
 pub loop-y-preserved : goal.loop-y-preserved
 loop-y-preserved c = rows_more c.loop-y.invariant c.loop-y-test.true (sym c.run_alike.ensures ∙ c.if-not-run_alike.false)

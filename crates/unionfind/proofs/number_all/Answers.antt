@@ -23,4 +23,6 @@ pub shape_of-labels : goal.shape_of-labels
 shape_of-labels c = c.loop-i.invariant.long
 
 pub returns : goal.returns
-returns c = finish c.loop-i.invariant (omega (arith, c.loop-i-test.false, c.loop-i.invariant.long))
+returns c =
+    let all = finish c.loop-i.invariant (omega (arith, c.loop-i-test.false, c.loop-i.invariant.long)) in
+    record { value = all.0; labels_after = all.1 }

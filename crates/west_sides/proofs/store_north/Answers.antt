@@ -1,7 +1,7 @@
 use mathlib.Core.Path.{refl}
 use Prim.Native.Nat.{◌-◌}
 use native.Mathlib.Omega.{arith}
-use Rattle.west_sides.specs.Legs.{north-start, north_begin, next-north, north_again, north_end}
+use Rattle.west_sides.specs.Legs.{north-start, north_begin, NextNorth, next-north, north_again, north_end}
 use Rattle.west_sides.proofs.store_north.Goals as goal
 
 pub overflow_mul-i : goal.overflow_mul-i
@@ -14,16 +14,24 @@ pub loop-y-init : goal.loop-y-init
 loop-y-init c = north_begin _ _ _ _ _ _
 
 pub overflow_sub-i : goal.overflow_sub-i
-overflow_sub-i c = (next-north c.requires.1 c.loop-y.invariant c.requires.2 c.requires.0.room c.loop-y-test.true).row_back
+overflow_sub-i c =
+    let next : NextNorth c.requires.1 c.loop-y.invariant = next-north c.requires.1 c.loop-y.invariant c.requires.2 c.requires.0.room c.loop-y-test.true in
+    next.row_back
 
 pub offset_bounds-map-i : goal.offset_bounds-map-i
-offset_bounds-map-i c = omega (arith, (next-north c.requires.1 c.loop-y.invariant c.requires.2 c.requires.0.room c.loop-y-test.true).inside, c.ranges)
+offset_bounds-map-i c =
+    let next : NextNorth c.requires.1 c.loop-y.invariant = next-north c.requires.1 c.loop-y.invariant c.requires.2 c.requires.0.room c.loop-y-test.true in
+    omega (arith, next.inside, c.ranges)
 
 pub bounds-map-i : goal.bounds-map-i
-bounds-map-i c = (next-north c.requires.1 c.loop-y.invariant c.requires.2 c.requires.0.room c.loop-y-test.true).inside
+bounds-map-i c =
+    let next : NextNorth c.requires.1 c.loop-y.invariant = next-north c.requires.1 c.loop-y.invariant c.requires.2 c.requires.0.room c.loop-y-test.true in
+    next.inside
 
 pub loop-y-preserved : goal.loop-y-preserved
-loop-y-preserved c = north_again c.requires.1 c.loop-y.invariant c.requires.0.small c.loop-y-test.true (next-north c.requires.1 c.loop-y.invariant c.requires.2 c.requires.0.room c.loop-y-test.true) refl
+loop-y-preserved c =
+    let next : NextNorth c.requires.1 c.loop-y.invariant = next-north c.requires.1 c.loop-y.invariant c.requires.2 c.requires.0.room c.loop-y-test.true in
+    north_again c.requires.1 c.loop-y.invariant c.requires.0.small c.loop-y-test.true next refl
 
 pub shape_of-map : goal.shape_of-map
 shape_of-map c = c.loop-y.invariant.long

@@ -11,7 +11,7 @@ pub loop-i-init : goal.loop-i-init
 loop-i-init c = first_leg _ _ _ _ _ (omega (arith, c.if-points-eq0.false))
 
 pub store_leg-leg-requires : goal.store_leg-leg-requires
-store_leg-leg-requires c = still_square c.loop-i.invariant.false.long c.pre
+store_leg-leg-requires c = still_square c.loop-i.invariant.false.long c.requires
 
 pub returns-then-not-leg : goal.returns-then-not-leg
 returns-then-not-leg c = leg_not_stored c.loop-i.invariant c.loop-i-test.true c.store_leg-leg.ensures c.if-not-leg.true

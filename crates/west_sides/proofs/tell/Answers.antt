@@ -3,19 +3,19 @@ use Rattle.west_sides.specs.Telling.{cycles_held_lem, not_told, rows_to_fill, ro
 use Rattle.west_sides.proofs.tell.Goals as goal
 
 pub store_cycles-requires : goal.store_cycles-requires
-store_cycles-requires c = cycles_held_lem c.pre c.side-side.ensures c.fill.ensures
+store_cycles-requires c = cycles_held_lem c.requires c.side-side.ensures c.fill.ensures
 
 pub returns-then-not-store_cycles : goal.returns-then-not-store_cycles
-returns-then-not-store_cycles c = not_told c.pre c.side-side.ensures c.fill.ensures c.store_cycles.ensures c.if-not-store_cycles.true
+returns-then-not-store_cycles c = not_told c.requires c.side-side.ensures c.fill.ensures c.store_cycles.ensures c.if-not-store_cycles.true
 
 pub shape_of-map-then-not-store_cycles : goal.shape_of-map-then-not-store_cycles
 shape_of-map-then-not-store_cycles c = (returns-then-not-store_cycles c).long
 
 pub fill_rows-requires : goal.fill_rows-requires
-fill_rows-requires c = rows_to_fill c.pre c.side-side.ensures c.fill.ensures c.store_cycles.ensures
+fill_rows-requires c = rows_to_fill c.requires c.side-side.ensures c.fill.ensures c.store_cycles.ensures
 
 pub returns : goal.returns
-returns c = rows_tell c.pre c.side-side.ensures c.fill.ensures c.store_cycles.ensures c.if-not-store_cycles.false c.fill_rows.ensures
+returns c = rows_tell c.requires c.side-side.ensures c.fill.ensures c.store_cycles.ensures c.if-not-store_cycles.false c.fill_rows.ensures
 
 pub shape_of-map : goal.shape_of-map
 shape_of-map c = (returns-then-not-store_cycles c).long

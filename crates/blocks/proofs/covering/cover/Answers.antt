@@ -17,19 +17,19 @@ block_fault-found-requires c =
     (small, c.pixels-whole.ensures ∙ pixels_are_power c.args.n (omega (arith, small)))
 
 pub returns-then-found-ne0 : goal.returns-then-found-ne0
-returns-then-found-ne0 c = passed_fault c.pre.1 c.loop-i.invariant c.loop-i-test.true c.block_fault-found.ensures c.if-found-ne0.true
+returns-then-found-ne0 c = passed_fault c.requires.1 c.loop-i.invariant c.loop-i-test.true c.block_fault-found.ensures c.if-found-ne0.true
 
 pub overflow_add-sum : goal.overflow_add-sum
 overflow_add-sum c =
     omega (
       arith,
-      passed_room c.pre.1 c.loop-i.invariant c.pre.0 c.loop-i-test.true c.block_fault-found.ensures
+      passed_room c.requires.1 c.loop-i.invariant c.requires.0 c.loop-i-test.true c.block_fault-found.ensures
           c.if-found-ne0.false c.pixels-sum.ensures,
     )
 
 pub loop-i-preserved : goal.loop-i-preserved
 loop-i-preserved c =
-    passed_more c.pre.1 c.loop-i.invariant c.pre.0 c.loop-i-test.true c.block_fault-found.ensures
+    passed_more c.requires.1 c.loop-i.invariant c.requires.0 c.loop-i-test.true c.block_fault-found.ensures
     c.if-found-ne0.false c.pixels-sum.ensures
 
 pub returns-then-sum-whole : goal.returns-then-sum-whole

@@ -1,5 +1,5 @@
 -- A digit, not two right turns from the one before, and a unit that stays within.
-use mathlib.Core.Path.{sym, ap, ◌∙◌}
+use mathlib.Core.Path.{◌≡◌, sym, ap, ◌∙◌}
 use mathlib.Core.Bool.{true}
 use Prim.Native.Nat.{◌-◌}
 use native.Mathlib.Omega.{arith}
@@ -19,8 +19,14 @@ returns-then-b-gt51 c = simp (le-leb 48 c.args.b c.if-b-lt48.false, lt-leb c.arg
 
 pub returns-then-b-back : goal.returns-then-b-back
 unfolding allowed digit_of is_direction
-returns-then-b-back c = simp ((simp (le-leb 48 (c.args.b) c.if-b-lt48.false, le-leb (c.args.b) 51 c.if-b-gt51.false)), eq-eqb ((c.args.b) - 48) (opposite (c.args.d)) (c.if-b-back.true ∙ (c.right-back.ensures ∙ ap right_of c.right.ensures ∙ two_right (c.args.d) c.requires)))
+returns-then-b-back c =
+    let back : c.right-back.result ≡ opposite (c.args.d) = c.right-back.ensures ∙ ap right_of c.right.ensures ∙ two_right (c.args.d) c.requires in
+    let within : is_direction (c.args.b) ≡ true = simp (le-leb 48 (c.args.b) c.if-b-lt48.false, le-leb (c.args.b) 51 c.if-b-gt51.false) in
+    simp (within, eq-eqb ((c.args.b) - 48) (opposite (c.args.d)) (c.if-b-back.true ∙ back))
 
 pub returns : goal.returns
 unfolding allowed digit_of is_direction
-returns c = simp ((simp (le-leb 48 (c.args.b) c.if-b-lt48.false, le-leb (c.args.b) 51 c.if-b-gt51.false)), ne_eqb ((c.args.b) - 48) (opposite (c.args.d)) (λ same. c.if-b-back.false (same ∙ sym (c.right-back.ensures ∙ ap right_of c.right.ensures ∙ two_right (c.args.d) c.requires)))) c.is_free.ensures
+returns c =
+    let back : c.right-back.result ≡ opposite (c.args.d) = c.right-back.ensures ∙ ap right_of c.right.ensures ∙ two_right (c.args.d) c.requires in
+    let within : is_direction (c.args.b) ≡ true = simp (le-leb 48 (c.args.b) c.if-b-lt48.false, le-leb (c.args.b) 51 c.if-b-gt51.false) in
+    simp (within, ne_eqb ((c.args.b) - 48) (opposite (c.args.d)) (λ same. c.if-b-back.false (same ∙ sym back))) c.is_free.ensures

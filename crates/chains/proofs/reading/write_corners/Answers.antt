@@ -1,5 +1,5 @@
 use Rattle.chains.specs.ChainForm.{digit_of}
-use Rattle.chains.specs.Bytes.{allowed_says, digit-below}
+use Rattle.chains.specs.Bytes.{Allowed, allowed_says, digit-below}
 use Rattle.chains.specs.Following.{draw_begin, draws, draw_room, draw_on, draw_end}
 use Prim.Native.Nat.{◌-◌}
 use native.Mathlib.Omega.{arith}
@@ -10,7 +10,11 @@ pub loop-i-init : goal.loop-i-init
 loop-i-init c = draw_begin c.args.corners.now c.requires.0
 
 pub overflow_sub-e : goal.overflow_sub-e
-overflow_sub-e c = omega (arith, (let l = c.loop-i in allowed_says l.d l.p (get_or (c.args.bytes.now) l.i 0) (draws l.invariant c.requires.0 c.loop-i-test.true)).low)
+overflow_sub-e c =
+    let says : Allowed c.loop-i.d c.loop-i.p (get_or (c.args.bytes.now) c.loop-i.i 0) =
+    let l = c.loop-i in
+    allowed_says l.d l.p (get_or (c.args.bytes.now) l.i 0) (draws l.invariant c.requires.0 c.loop-i-test.true) in
+    omega (arith, says.low)
 
 pub put_turn-at-requires : goal.put_turn-at-requires
 unfolding digit_of
@@ -18,7 +22,11 @@ put_turn-at-requires c = λ other. omega (arith, draw_room c.loop-i.invariant c.
 
 pub moved-p-requires : goal.moved-p-requires
 unfolding digit_of
-moved-p-requires c = (digit-below (let l = c.loop-i in allowed_says l.d l.p (get_or (c.args.bytes.now) l.i 0) (draws l.invariant c.requires.0 c.loop-i-test.true)), c.loop-i.invariant.reached.here, (let l = c.loop-i in allowed_says l.d l.p (get_or (c.args.bytes.now) l.i 0) (draws l.invariant c.requires.0 c.loop-i-test.true)).stays)
+moved-p-requires c =
+    let says : Allowed c.loop-i.d c.loop-i.p (get_or (c.args.bytes.now) c.loop-i.i 0) =
+    let l = c.loop-i in
+    allowed_says l.d l.p (get_or (c.args.bytes.now) l.i 0) (draws l.invariant c.requires.0 c.loop-i-test.true) in
+    (digit-below says, c.loop-i.invariant.reached.here, says.stays)
 
 pub loop-i-smaller : goal.loop-i-smaller
 loop-i-smaller c = omega arith

@@ -1,7 +1,9 @@
-use mathlib.Core.Path.{sym, ◌∙◌}
+use mathlib.Core.Path.{◌≡◌, sym, ◌∙◌}
 use mathlib.Core.Bool.{true}
-use Prim.Native.Nat.{◌-◌}
+use Prim.Native.Nat.{◌-◌, ◌<◌}
 use native.Mathlib.Omega.{arith}
+use lib.ListN.{get_or}
+use Rattle.headers.specs.Number.{is_digit}
 use Rattle.headers.specs.NumberLaws.{digit-range, five_digits}
 use Rattle.headers.proofs.Digits.{begin, again, sixth, finish, finish-end}
 use Rattle.headers.proofs.number.parse.Goals as goal
@@ -17,28 +19,40 @@ returns-then-not-digit c =
 
 pub returns-then-count-eq5 : goal.returns-then-count-eq5
 returns-then-count-eq5 c =
+    let digit : is_digit (get_or c.args.bytes.now c.loop-at.at 0) ≡ true = sym c.is_digit-digit.ensures ∙ c.if-not-digit.false in
     record {
-      says = sym (sixth c.loop-at.invariant c.loop-at-test.true (sym c.is_digit-digit.ensures ∙ c.if-not-digit.false) c.if-count-eq5.true);
+      says = sym (sixth c.loop-at.invariant c.loop-at-test.true digit c.if-count-eq5.true);
       inside = omega arith;
     }
 
 pub overflow_mul-value : goal.overflow_mul-value
-overflow_mul-value c = omega (arith, (let l = c.loop-at in five_digits _ _ l.invariant.few l.invariant.small))
+overflow_mul-value c =
+    let below : c.loop-at.value < 100000 = let l = c.loop-at in five_digits _ _ l.invariant.few l.invariant.small in
+    omega (arith, below)
 
 pub overflow_sub-value : goal.overflow_sub-value
-overflow_sub-value c = omega (arith, (digit-range _ (sym c.is_digit-digit.ensures ∙ c.if-not-digit.false)).0)
+overflow_sub-value c =
+    let digit : is_digit (get_or c.args.bytes.now c.loop-at.at 0) ≡ true = sym c.is_digit-digit.ensures ∙ c.if-not-digit.false in
+    omega (arith, (digit-range _ digit).0)
 
 pub overflow_cast-value : goal.overflow_cast-value
-overflow_cast-value c = omega (arith, (digit-range _ (sym c.is_digit-digit.ensures ∙ c.if-not-digit.false)).1)
+overflow_cast-value c =
+    let digit : is_digit (get_or c.args.bytes.now c.loop-at.at 0) ≡ true = sym c.is_digit-digit.ensures ∙ c.if-not-digit.false in
+    omega (arith, (digit-range _ digit).1)
 
 pub overflow_add-value : goal.overflow_add-value
-overflow_add-value c = omega (arith, (let l = c.loop-at in five_digits _ _ l.invariant.few l.invariant.small), (digit-range _ (sym c.is_digit-digit.ensures ∙ c.if-not-digit.false)).1)
+overflow_add-value c =
+    let digit : is_digit (get_or c.args.bytes.now c.loop-at.at 0) ≡ true = sym c.is_digit-digit.ensures ∙ c.if-not-digit.false in
+    let below : c.loop-at.value < 100000 = let l = c.loop-at in five_digits _ _ l.invariant.few l.invariant.small in
+    omega (arith, below, (digit-range _ digit).1)
 
 pub overflow_add-count : goal.overflow_add-count
 overflow_add-count c = omega (arith, c.loop-at.invariant.few)
 
 pub loop-at-preserved : goal.loop-at-preserved
-loop-at-preserved c = again c.loop-at.invariant c.loop-at-test.true (sym c.is_digit-digit.ensures ∙ c.if-not-digit.false) c.if-count-eq5.false
+loop-at-preserved c =
+    let digit : is_digit (get_or c.args.bytes.now c.loop-at.at 0) ≡ true = sym c.is_digit-digit.ensures ∙ c.if-not-digit.false in
+    again c.loop-at.invariant c.loop-at-test.true digit c.if-count-eq5.false
 
 pub returns : goal.returns
 returns c = rw c.stop-2.ensures (finish-end c.loop-at.invariant c.loop-at-test.false)

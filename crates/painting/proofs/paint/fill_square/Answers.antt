@@ -19,7 +19,7 @@ fill_run-requires c = row_fits c.requires.1 c.loop-y.invariant c.loop-y-test.tru
 pub overflow_add-from : goal.overflow_add-from
 overflow_add-from c =
     let done = c.loop-y.invariant in
-    omega (arith, row_fits c.requires.1 done c.loop-y-test.true, c.requires.0, c.well-formed, done.filled.long)
+    omega (arith, row_fits c.requires.1 done c.loop-y-test.true, c.requires.0, c.well_formed, done.filled.long)
 
 pub loop-y-preserved : goal.loop-y-preserved
 loop-y-preserved c = rows-done-more c.requires.1 c.loop-y.invariant c.loop-y-test.true c.fill_run.ensures

@@ -1,7 +1,10 @@
+use Rattle.quadtree.specs.Raster.{place}
 use Rattle.squares.specs.BlockByBlock.{painted_none, block_placed, block_fits, painted_more, painted_all, same_length as kept}
 use Rattle.painting.specs.FourBlocks.{four_room, painted_four}
+use mathlib.Core.Path.{◌≡◌}
 use Prim.Native.Nat.{◌-◌}
 use native.Mathlib.Omega.{arith}
+use lib.ListN.{get_or}
 use Rattle.painting.proofs.paint.paint.Goals as goal
 
 pub loop-i-init : goal.loop-i-init
@@ -15,21 +18,26 @@ overflow_add-level c = omega (arith, c.shared_slice_known-in-loop-i-1.given c.lo
 
 pub store_four-requires : goal.store_four-requires
 store_four-requires c =
+    let placed : c.place-at.result ≡ place c.args.n (get_or c.args.codes.now c.loop-i.i 0) = block_placed c.requires c.loop-i.invariant c.loop-i-test.true c.place-at.ensures in
     let first = c.if-level-codes-eq0.true in
-    four_room c.pre c.loop-i.invariant c.if-i-codes.true (omega (arith, first)) (omega (arith, first)) (block_placed c.pre c.loop-i.invariant c.loop-i-test.true c.place-at.ensures)
+    four_room c.requires c.loop-i.invariant c.if-i-codes.true (omega (arith, first)) (omega (arith, first)) placed
 
 pub loop-i-preserved-then-i-codes : goal.loop-i-preserved-then-i-codes
 loop-i-preserved-then-i-codes c =
+    let placed : c.place-at.result ≡ place c.args.n (get_or c.args.codes.now c.loop-i.i 0) = block_placed c.requires c.loop-i.invariant c.loop-i-test.true c.place-at.ensures in
     let first = c.if-level-codes-eq0.true in
-    painted_four c.pre c.loop-i.invariant c.if-i-codes.true (omega (arith, first)) (omega (arith, first)) (block_placed c.pre c.loop-i.invariant c.loop-i-test.true c.place-at.ensures)
+    painted_four c.requires c.loop-i.invariant c.if-i-codes.true (omega (arith, first)) (omega (arith, first)) placed
     c.store_four.ensures
 
 pub fill_square-requires : goal.fill_square-requires
-fill_square-requires c = block_fits c.pre c.loop-i.invariant c.loop-i-test.true (block_placed c.pre c.loop-i.invariant c.loop-i-test.true c.place-at.ensures) c.side.ensures
+fill_square-requires c =
+    let placed : c.place-at.result ≡ place c.args.n (get_or c.args.codes.now c.loop-i.i 0) = block_placed c.requires c.loop-i.invariant c.loop-i-test.true c.place-at.ensures in
+    block_fits c.requires c.loop-i.invariant c.loop-i-test.true placed c.side.ensures
 
 pub loop-i-preserved : goal.loop-i-preserved
 loop-i-preserved c =
-    painted_more c.pre c.loop-i.invariant c.loop-i-test.true (block_placed c.pre c.loop-i.invariant c.loop-i-test.true c.place-at.ensures) c.side.ensures
+    let placed : c.place-at.result ≡ place c.args.n (get_or c.args.codes.now c.loop-i.i 0) = block_placed c.requires c.loop-i.invariant c.loop-i-test.true c.place-at.ensures in
+    painted_more c.requires c.loop-i.invariant c.loop-i-test.true placed c.side.ensures
     c.fill_square.ensures
 
 pub shape_of-raster : goal.shape_of-raster

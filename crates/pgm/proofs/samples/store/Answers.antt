@@ -10,7 +10,7 @@ pub sample-requires : goal.sample-requires
 sample-requires c = room-of-each _ _ _ _ c.requires.0 c.loop-at-test.true
 
 pub offset_bounds-raster-at : goal.offset_bounds-raster-at
-offset_bounds-raster-at c = omega (arith, c.loop-at-test.true, c.requires.1, c.well-formed)
+offset_bounds-raster-at c = omega (arith, c.loop-at-test.true, c.requires.1, c.well_formed)
 
 pub bounds-raster-at : goal.bounds-raster-at
 bounds-raster-at c = omega (arith, c.loop-at-test.true, c.loop-at.invariant.long, c.requires.1)

@@ -1,8 +1,8 @@
 -- Each test comes in the order of the causes, so at each return the law of that cause applies. A width that passes 11 is at most 256, so
 -- the product does not overflow.
-use mathlib.Core.Path.{sym, ap, ◌∙◌}
+use mathlib.Core.Path.{◌≡◌, sym, ap, ◌∙◌}
 use mathlib.Core.Bool.{not}
-use Prim.Native.Nat.{ℕ, ◌≤◌}
+use Prim.Native.Nat.{ℕ, ◌≤◌, ◌*◌}
 use native.Mathlib.Nat.{mul-le-mul}
 use native.Mathlib.Omega.{arith}
 use lib.Dec.{eqb}
@@ -10,6 +10,7 @@ use Rattle.pgm.specs.Exponent.{exponent, width_small}
 use Rattle.pgm.specs.Samples.{is_wide}
 use Rattle.pgm.specs.Picture.{outside}
 use Rattle.pgm.specs.ShapeLaws.{width_not_height, width_no_power, maxval_outside, size_wrong, size_right}
+use Rattle.pgm.specs.declared.shape.PowerOfTwo.{PowerOfTwo}
 use Rattle.pgm.proofs.shape.shape_of.Goals as goal
 
 pub returns-then-width-height : goal.returns-then-width-height
@@ -21,19 +22,44 @@ returns-in_default c =
     width_no_power _ _ c.if-width-height.false none
 
 pub overflow_mul-count : goal.overflow_mul-count
-overflow_mul-count c = omega (arith, (let a = c.args in let w : a.width ≤ 256 = width_small a.width (sym c.exponent.ensures ∙ c.in-Power.is) in let h : a.height ≤ 256 = omega (arith, c.if-width-height.false) in mul-le-mul w h))
+overflow_mul-count c =
+    let equal : let a = c.args in a.width ≡ a.height = c.if-width-height.false in
+    let power : exponent c.args.width ≡ PowerOfTwo.Power c.in-Power.n = sym c.exponent.ensures ∙ c.in-Power.is in
+    let few : let a = c.args in a.width * a.height ≤ 65536 =
+    let a = c.args in
+    let w : a.width ≤ 256 = width_small a.width power in
+    let h : a.height ≤ 256 = omega (arith, equal) in
+    mul-le-mul w h in
+    omega (arith, few)
 
 pub bytes_of-requires : goal.bytes_of-requires
-bytes_of-requires c = (let a = c.args in let w : a.width ≤ 256 = width_small a.width (sym c.exponent.ensures ∙ c.in-Power.is) in let h : a.height ≤ 256 = omega (arith, c.if-width-height.false) in mul-le-mul w h)
+bytes_of-requires c =
+    let equal : let a = c.args in a.width ≡ a.height = c.if-width-height.false in
+    let power : exponent c.args.width ≡ PowerOfTwo.Power c.in-Power.n = sym c.exponent.ensures ∙ c.in-Power.is in
+    let few : let a = c.args in a.width * a.height ≤ 65536 =
+    let a = c.args in
+    let w : a.width ≤ 256 = width_small a.width power in
+    let h : a.height ≤ 256 = omega (arith, equal) in
+    mul-le-mul w h in
+    few
 
 pub returns-then-outside : goal.returns-then-outside
 unfolding outside
-returns-then-outside c = maxval_outside _ _ c.if-width-height.false (sym c.exponent.ensures ∙ c.in-Power.is) c.if-outside.true
+returns-then-outside c =
+    let equal : let a = c.args in a.width ≡ a.height = c.if-width-height.false in
+    let power : exponent c.args.width ≡ PowerOfTwo.Power c.in-Power.n = sym c.exponent.ensures ∙ c.in-Power.is in
+    maxval_outside _ _ equal power c.if-outside.true
 
 pub returns-then-unfilled : goal.returns-then-unfilled
 unfolding outside is_wide
-returns-then-unfilled c = size_wrong _ _ c.if-width-height.false (sym c.exponent.ensures ∙ c.in-Power.is) c.if-outside.false (ap (λ (k : ℕ). not (eqb c.args.length k)) (sym c.bytes_of.ensures) ∙ c.if-unfilled.true)
+returns-then-unfilled c =
+    let equal : let a = c.args in a.width ≡ a.height = c.if-width-height.false in
+    let power : exponent c.args.width ≡ PowerOfTwo.Power c.in-Power.n = sym c.exponent.ensures ∙ c.in-Power.is in
+    size_wrong _ _ equal power c.if-outside.false (ap (λ (k : ℕ). not (eqb c.args.length k)) (sym c.bytes_of.ensures) ∙ c.if-unfilled.true)
 
 pub returns : goal.returns
 unfolding outside is_wide
-returns c = size_right _ _ c.if-width-height.false (sym c.exponent.ensures ∙ c.in-Power.is) c.if-outside.false (ap (λ (k : ℕ). not (eqb c.args.length k)) (sym c.bytes_of.ensures) ∙ c.if-unfilled.false)
+returns c =
+    let equal : let a = c.args in a.width ≡ a.height = c.if-width-height.false in
+    let power : exponent c.args.width ≡ PowerOfTwo.Power c.in-Power.n = sym c.exponent.ensures ∙ c.in-Power.is in
+    size_right _ _ equal power c.if-outside.false (ap (λ (k : ℕ). not (eqb c.args.length k)) (sym c.bytes_of.ensures) ∙ c.if-unfilled.false)

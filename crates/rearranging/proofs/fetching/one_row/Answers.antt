@@ -1,4 +1,4 @@
-use Prim.Native.Nat.{◌-◌}
+use Prim.Native.Nat.{◌+◌, ◌-◌, ◌*◌, ◌^◌, ◌≤◌, ◌<◌}
 use native.Mathlib.Omega.{arith}
 use Rattle.rearranging.specs.Rows.{width, few, column-byte, place_inside, code_inside, pixel_fetched, row-begun, row_more, row_done, row-length}
 use Rattle.rearranging.proofs.fetching.one_row.Goals as goal
@@ -11,24 +11,38 @@ loop-x-init c = row-begun _ _ _ _ _
 
 pub code8-c-requires : goal.code8-c-requires
 code8-c-requires c =
+    let enough : (4 ^ c.args.n ≤ 65536) × (c.args.y < 256) × (c.args.y * c.side-w.result < 65536) = few c.requires c.side-w.ensures in
     let x = column-byte c.requires c.side-w.ensures c.loop-x-test.true in
-    let y = (few c.requires c.side-w.ensures).1 in
+    let y = enough.1 in
     (c.requires.table_is, omega (arith, x, y), omega (arith, x, y))
 
 pub offset_bounds-stored-c : goal.offset_bounds-stored-c
-offset_bounds-stored-c c = omega (arith, (code_inside c.pre c.side-w.ensures c.loop-x-test.true c.code8-c.ensures), (few c.requires c.side-w.ensures).0)
+offset_bounds-stored-c c =
+    let enough : (4 ^ c.args.n ≤ 65536) × (c.args.y < 256) × (c.args.y * c.side-w.result < 65536) = few c.requires c.side-w.ensures in
+    let at_code : c.code8-c.result < 4 ^ c.args.n = code_inside c.requires c.side-w.ensures c.loop-x-test.true c.code8-c.ensures in
+    omega (arith, at_code, enough.0)
 
 pub bounds-stored-c : goal.bounds-stored-c
-bounds-stored-c c = omega (arith, (code_inside c.pre c.side-w.ensures c.loop-x-test.true c.code8-c.ensures), c.requires.fit.whole)
+bounds-stored-c c =
+    let at_code : c.code8-c.result < 4 ^ c.args.n = code_inside c.requires c.side-w.ensures c.loop-x-test.true c.code8-c.ensures in
+    omega (arith, at_code, c.requires.fit.whole)
 
 pub overflow_add-raster : goal.overflow_add-raster
-overflow_add-raster c = omega (arith, (place_inside c.requires c.side-w.ensures c.loop-x-test.true), (few c.requires c.side-w.ensures).0)
+overflow_add-raster c =
+    let enough : (4 ^ c.args.n ≤ 65536) × (c.args.y < 256) × (c.args.y * c.side-w.result < 65536) = few c.requires c.side-w.ensures in
+    let at-pixel : c.args.y * c.side-w.result + c.loop-x.x < 4 ^ c.args.n = place_inside c.requires c.side-w.ensures c.loop-x-test.true in
+    omega (arith, at-pixel, enough.0)
 
 pub offset_bounds-raster-start : goal.offset_bounds-raster-start
-offset_bounds-raster-start c = omega (arith, (place_inside c.requires c.side-w.ensures c.loop-x-test.true), (few c.requires c.side-w.ensures).0)
+offset_bounds-raster-start c =
+    let enough : (4 ^ c.args.n ≤ 65536) × (c.args.y < 256) × (c.args.y * c.side-w.result < 65536) = few c.requires c.side-w.ensures in
+    let at-pixel : c.args.y * c.side-w.result + c.loop-x.x < 4 ^ c.args.n = place_inside c.requires c.side-w.ensures c.loop-x-test.true in
+    omega (arith, at-pixel, enough.0)
 
 pub bounds-raster-start : goal.bounds-raster-start
-bounds-raster-start c = omega (arith, (place_inside c.requires c.side-w.ensures c.loop-x-test.true), c.requires.fit.room, row-length _ _ _ _ c.loop-x.invariant)
+bounds-raster-start c =
+    let at-pixel : c.args.y * c.side-w.result + c.loop-x.x < 4 ^ c.args.n = place_inside c.requires c.side-w.ensures c.loop-x-test.true in
+    omega (arith, at-pixel, c.requires.fit.room, row-length _ _ _ _ c.loop-x.invariant)
 
 pub loop-x-preserved : goal.loop-x-preserved
 loop-x-preserved c =

@@ -1,6 +1,6 @@
 -- M with x, and then the space with y in the tail that is lent: two pieces laid one after the other.
 use mathlib.Core.List.{◌∷◌}
-use Prim.Native.Nat.{◌%◌, ◌/◌}
+use Prim.Native.Nat.{◌%◌, ◌/◌, ◌≤◌, ◌<◌}
 use native.Mathlib.Omega.{arith}
 use Rattle.lattice.specs.Directions.{x_of, y_of}
 use Rattle.lattice.specs.CycleForm.{inside_says}
@@ -11,18 +11,29 @@ use Rattle.svg.specs.Stores.{number_short}
 use Rattle.svg.proofs.text.put_first.Goals as goal
 
 pub slice_bounds-put_number-count : goal.slice_bounds-put_number-count
-slice_bounds-put_number-count c = omega (arith, (number_short 77 (c.args.c % 512) c.put_number-n.result (omega arith) c.put_number-n.ensures.count_is), c.put_number-n.auto.0)
+slice_bounds-put_number-count c =
+    let x-short : c.put_number-n.result ≤ 4 = number_short 77 (c.args.c % 512) c.put_number-n.result (omega arith) c.put_number-n.ensures.count_is in
+    omega (arith, x-short, c.put_number-n.auto.0)
 
 pub slice_bounds-put_number-start : goal.slice_bounds-put_number-start
-slice_bounds-put_number-start c = omega (arith, (number_short 77 (c.args.c % 512) c.put_number-n.result (omega arith) c.put_number-n.ensures.count_is), c.put_number-n.auto.0)
+slice_bounds-put_number-start c =
+    let x-short : c.put_number-n.result ≤ 4 = number_short 77 (c.args.c % 512) c.put_number-n.result (omega arith) c.put_number-n.ensures.count_is in
+    omega (arith, x-short, c.put_number-n.auto.0)
 
 pub put_number-m-requires : goal.put_number-m-requires
 unfolding y_of
-put_number-m-requires c = omega (arith, (number_short 77 (c.args.c % 512) c.put_number-n.result (omega arith) c.put_number-n.ensures.count_is), (omega (arith, inside_says c.args.c c.requires.1)), c.put_number-n.auto.0)
+put_number-m-requires c =
+    let x-short : c.put_number-n.result ≤ 4 = number_short 77 (c.args.c % 512) c.put_number-n.result (omega arith) c.put_number-n.ensures.count_is in
+    let y-small : c.args.c / 512 < 1000 = omega (arith, inside_says c.args.c c.requires.1) in
+    omega (arith, x-short, y-small, c.put_number-n.auto.0)
 
 pub overflow_add-result : goal.overflow_add-result
 unfolding y_of
-overflow_add-result c = omega (arith, (number_short 77 (c.args.c % 512) c.put_number-n.result (omega arith) c.put_number-n.ensures.count_is), (number_short 32 (c.args.c / 512) c.put_number-m.result (omega (arith, inside_says c.args.c c.requires.1)) c.put_number-m.ensures.count_is))
+overflow_add-result c =
+    let x-short : c.put_number-n.result ≤ 4 = number_short 77 (c.args.c % 512) c.put_number-n.result (omega arith) c.put_number-n.ensures.count_is in
+    let y-small : c.args.c / 512 < 1000 = omega (arith, inside_says c.args.c c.requires.1) in
+    let y-short : c.put_number-m.result ≤ 4 = number_short 32 (c.args.c / 512) c.put_number-m.result y-small c.put_number-m.ensures.count_is in
+    omega (arith, x-short, y-short)
 
 pub returns : goal.returns
 unfolding word x_of y_of
