@@ -1,7 +1,7 @@
 -- The samples of a picture: one byte each, or two.
 use Rattle.std.specs.Prelude.{◌≡◌, refl, Bool, true, false, ◌||◌, List, [], ◌∷◌, ℕ, zero, suc, ◌+◌, ◌*◌, ◌≤◌, ◌<◌, ltb, length, get_or}
-use Rattle.std.proofs.Common.{ap, arith, ltb-false, lt-ltb, le-ltb}
-use Rattle.sequences.specs.Cases.{or_right, neither}
+use Rattle.std.proofs.Common.{ap, arith, ltb-false, lt-ltb, le-ltb, true≢false}
+use Rattle.sequences.specs.Cases.{or_right}
 use Rattle.sequences.specs.Ranges.{tabulate, length-tabulate, tabulate_at}
 
 -- "For maxval above 255 a sample is two bytes" (document 02, i).
@@ -60,6 +60,10 @@ pub bytes_at_least : (wide : Bool) (count : ℕ) → count ≤ sample_bytes wide
 unfolding sample_bytes
 bytes_at_least false count = omega arith
 bytes_at_least true count = omega arith
+
+pub neither : (a b : Bool) → a || b ≡ false → (a ≡ false) × (b ≡ false)
+neither true b e = absurd (true≢false e)
+neither false b e = (refl, e)
 
 -- None is above maxval exactly where each is at most maxval.
 pub each_at_most : (maxval : ℕ) (values : List ℕ) → any_above maxval values ≡ false → (i : ℕ) → i < length values → get_or values i 0 ≤ maxval

@@ -6,11 +6,11 @@ use Rattle.std.proofs.Math.Bool.{true, false}
 use Rattle.std.proofs.lemmas.Bool.{false≢true}
 use native.Mathlib.Omega.{arith}
 use borrow.Author.Tests.{lt-ltb, le-ltb, ltb-false, eq-eqb, ne_eqb, eqb-true, not-false}
-use Rattle.sequences.specs.Cases.{and_both, neither, not_flips, or_right}
+use Rattle.sequences.specs.Cases.{and_both, not_flips, or_right}
 use Rattle.sequences.specs.Powers.{pow4_mono, square_of_side}
 use Rattle.headers.specs.Header.{Fields}
 use Rattle.pgm.specs.Exponent.{exponent, side_number, side_n, exponent_power, exponent_of_power}
-use Rattle.pgm.specs.Samples.{is_wide, sample_bytes}
+use Rattle.pgm.specs.Samples.{is_wide, sample_bytes, neither}
 use Rattle.pgm.specs.Picture.{square, outside, filled, samples}
 use Rattle.pgm.specs.Shaped.{demand_shape, shaped, shape_number, shape_n, shape_count, shape_wide, is_passed}
 use Rattle.pgm.specs.declared.shape.PowerOfTwo.{PowerOfTwo}

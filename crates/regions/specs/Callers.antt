@@ -1,13 +1,13 @@
 -- What the promise says where a caller stands: about the label list, the work list and the count at exit.
 use Rattle.std.specs.Prelude.{◌≡◌, refl, ◌↔◌, Bool, true, false, ◌||◌, ℕ, ◌*◌, ◌^◌, ◌≤◌, ◌<◌, length, replicate}
 use Rattle.std.proofs.Math.Path.{sym, ap}
-use Rattle.std.proofs.Common.{◌∙◌, arith}
+use Rattle.std.proofs.Common.{◌∙◌, arith, true≢false}
 use mathlib.Core.List.{List}
 use Rattle.std.proofs.Math.ListN.{get_or}
 use Rattle.std.proofs.lemmas.List.{length-replicate, get_or-replicate}
 use Rattle.std.proofs.Math.Dec.{ltb}
 use borrow.Author.Tests.{ltb-false}
-use Rattle.sequences.specs.Cases.{when, neither, first_none, first-zero, when_yes, when_zero, written_accepted, written_refused, count_accepted, count_refused}
+use Rattle.sequences.specs.Cases.{when, first_none, first-zero, when_yes, when_zero, written_accepted, written_refused, count_accepted, count_refused}
 use Rattle.sequences.specs.Over.{over, over_none, over_inside, over_beyond}
 use Rattle.sequences.specs.Ranges.{tabulate, tabulate_from}
 use Rattle.quadtree.specs.Blocks.{Block, blocks, paint}
@@ -23,6 +23,10 @@ use Rattle.components.specs.Walk.{block-count}
 use Rattle.regions.specs.declared.Numbered.{Numbered}
 use Rattle.regions.specs.Promise.{numbering_number, labels_written, zeros_written, regions_counted, Numbering, none}
 
+or-false : (a b : Bool) → a || b ≡ false → (a ≡ false) × (b ≡ false)
+or-false true b h = absurd (true≢false h)
+or-false false b h = (refl, h)
+
 -- Where the check finds nothing and one of the lists is too short, the number is 8.
 pub eight_unless_long : (n : ℕ) (cs ls ks labels₀ work₀ : List ℕ) → number n cs ls ks ≡ 0
     → ((length cs ≤ length labels₀) × (2 * 4 ^ n ≤ length work₀) → ⊥) → numbering_number n cs ls ks labels₀ work₀ ≡ 8
@@ -34,7 +38,7 @@ eight_unless_long n cs ls ks labels₀ work₀ accepted short =
         → when (ltb (length labels₀) (length cs) || ltb (length work₀) (2 * 4 ^ n)) 8 ≡ 8
     pick true e = when_yes (ltb (length labels₀) (length cs) || ltb (length work₀) (2 * 4 ^ n)) 8 e
     pick false e =
-        let none_short = neither (ltb (length labels₀) (length cs)) (ltb (length work₀) (2 * 4 ^ n)) e in
+        let none_short = or-false (ltb (length labels₀) (length cs)) (ltb (length work₀) (2 * 4 ^ n)) e in
         absurd (short (ltb-false (length labels₀) (length cs) none_short.0, ltb-false (length work₀) (2 * 4 ^ n) none_short.1))
 
 -- The label of the block that holds the pixel c.
@@ -76,7 +80,7 @@ module _ {n : ℕ} {cs ls ks labels₀ work₀ labels₁ work₁ : List ℕ} {r 
     pub long_enough : (length cs ≤ length labels₀) × (2 * 4 ^ n ≤ length work₀)
     unfolding numbering_number number_with
     long_enough =
-        let none_short = neither (ltb (length labels₀) (length cs)) (ltb (length work₀) (2 * 4 ^ n))
+        let none_short = or-false (ltb (length labels₀) (length cs)) (ltb (length work₀) (2 * 4 ^ n))
         (when_zero (ltb (length labels₀) (length cs) || ltb (length work₀) (2 * 4 ^ n)) 8 (omega arith) (first-zero (number n cs ls ks) _ zero_number).1) in
         (ltb-false (length labels₀) (length cs) none_short.0, ltb-false (length work₀) (2 * 4 ^ n) none_short.1)
 
