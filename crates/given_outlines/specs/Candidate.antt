@@ -1,5 +1,5 @@
 -- The candidate: the only image that can have given outlines, read off the northward edges row by row.
-use Rattle.std.specs.Prelude.{◌≡◌, refl, Bool, true, false, List, [], ◌∷◌, ℕ, zero, suc, ◌-◌, ◌^◌, eqb}
+use Rattle.std.specs.Prelude.{◌≡◌, refl, List, [], ◌∷◌, ℕ, zero, suc, ◌-◌, ◌^◌}
 use Rattle.sequences.specs.Cases.{first, when}
 use Rattle.sequences.specs.Ranges.{tabulate}
 use Rattle.interleaving.specs.Codes.{column, row}

@@ -1,6 +1,7 @@
 -- Outlines that are given with the colour of each region, and the images and block lists that have them (document 02, request f).
-use Rattle.std.specs.Prelude.{◌≡◌, refl, List, [], ◌++◌, map, ℕ, zero, suc, ◌^◌, ◌<◌, length, get_or, take, drop}
+use Rattle.std.specs.Prelude.{◌≡◌, List, [], ◌++◌, map, ℕ, ◌^◌, ◌<◌, length, get_or, take}
 use Rattle.std.proofs.Common.{sym, ap, ap₂, ◌∙◌, append-nil}
+use Rattle.std.proofs.Math.Seq.{drop-nil}
 use Rattle.std.proofs.lemmas.List.{length-map}
 use Rattle.sequences.specs.Maps.{get_d_map}
 use Rattle.sequences.specs.Over.{over}
@@ -84,10 +85,7 @@ length-coloured colours nums = length-map nums (λ r. get_or colours r 0)
 
 over_nothing : (xs : List ℕ) → over xs [] ≡ xs
 unfolding over
-over_nothing xs = ap (λ t. xs ++ t) (nothing (length xs)) ∙ append-nil xs
-  where
-    nothing : (k : ℕ) → drop {A = ℕ} k [] ≡ []
-    nothing k = elim k [ zero ↦ refl | suc j ↦ refl ]
+over_nothing xs = ap (λ t. xs ++ t) (drop-nil (length xs)) ∙ append-nil xs
 
 -- The lists of a listing hold it.
 pub listing-held : (l : List Cycle) → cycles_in (owners l) (ends l) (all_corners l) ≡ l
