@@ -1,6 +1,5 @@
 use Rattle.location.specs.Levels.{pixels_are_power}
 use mathlib.Core.Path.{◌∙◌}
-use Prim.Native.Nat.{◌-◌}
 use native.Mathlib.Omega.{arith}
 use Rattle.blocks.specs.Covering.{passed_none, passed_fault, passed_room, passed_more, passed_short, passed_all}
 use Rattle.blocks.proofs.covering.cover.Goals as goal
