@@ -29,16 +29,16 @@ put_corner-n-requires c =
 
 pub overflow_add-at : goal.overflow_add-at
 overflow_add-at c =
-    let further : let p = c.put_corner-n in let after = put_mid c.loop-i.at (length c.loop-i.text - c.loop-i.at) c.loop-i.text p.new.0 in PathSoFar c.args.corners.now c.args.text.now after (c.loop-i.i + 1) (c.loop-i.at + p.result) =
+    let further : let p = c.put_corner-n in let after = put_mid c.loop-i.at (length c.loop-i.text - c.loop-i.at) c.loop-i.text p.new.text in PathSoFar c.args.corners.now c.args.text.now after (c.loop-i.i + 1) (c.loop-i.at + p.result) =
     let p = c.put_corner-n in
-    path_on c.loop-i.invariant p.new.0 p.result c.requires.0 c.loop-i-test.true p.auto.0 p.ensures in
+    path_on c.loop-i.invariant p.new.text p.result c.requires.0 c.loop-i-test.true p.auto.text p.ensures in
     omega (arith, further.few)
 
 pub loop-i-preserved : goal.loop-i-preserved
 loop-i-preserved c =
-    let further : let p = c.put_corner-n in let after = put_mid c.loop-i.at (length c.loop-i.text - c.loop-i.at) c.loop-i.text p.new.0 in PathSoFar c.args.corners.now c.args.text.now after (c.loop-i.i + 1) (c.loop-i.at + p.result) =
+    let further : let p = c.put_corner-n in let after = put_mid c.loop-i.at (length c.loop-i.text - c.loop-i.at) c.loop-i.text p.new.text in PathSoFar c.args.corners.now c.args.text.now after (c.loop-i.i + 1) (c.loop-i.at + p.result) =
     let p = c.put_corner-n in
-    path_on c.loop-i.invariant p.new.0 p.result c.requires.0 c.loop-i-test.true p.auto.0 p.ensures in
+    path_on c.loop-i.invariant p.new.text p.result c.requires.0 c.loop-i-test.true p.auto.text p.ensures in
     further
 
 pub bounds-text-at : goal.bounds-text-at
