@@ -96,12 +96,12 @@ module _ {k side r size e : ℕ} {es map : List ℕ} (held : Held k side r size 
 pub marks_same : {k side r size : ℕ} {es map : List ℕ} → Held k side r size es map → (j : ℕ) → get_or (marks k side r es map) j 0 % mark_bit ≡ get_or map j 0 % mark_bit
 unfolding marks
 marks_same {es = []} held j = refl
-marks_same {es = e ∷ es} held j = marks_same (held-rest held) j ∙ same_entry held j
+marks_same {es = e ∷ es} held j = marks_same {es = es} (held-rest held) j ∙ same_entry held j
 
 pub marks_bounded : {k side r size : ℕ} {es map : List ℕ} → Held k side r size es map → (j : ℕ) → get_or map j 0 < 2 * mark_bit → get_or (marks k side r es map) j 0 < 2 * mark_bit
 unfolding marks
 marks_bounded {es = []} held j h = h
-marks_bounded {k} {side} {r} {es = e ∷ es} {map} held j h = marks_bounded (held-rest held) j (pick (one_mark k side r map e j (first_fits held)))
+marks_bounded {k} {side} {r} {es = e ∷ es} {map} held j h = marks_bounded {es = es} (held-rest held) j (pick (one_mark k side r map e j (first_fits held)))
   where
     pick : OneMark k side r map e j → get_or (mark k side r map e) j 0 < 2 * mark_bit
     pick (marked z q v) = omega (arith, v, held.known)
@@ -110,7 +110,7 @@ marks_bounded {k} {side} {r} {es = e ∷ es} {map} held j h = marks_bounded (hel
 pub marks-beyond : {k side r size : ℕ} {es map : List ℕ} → Held k side r size es map → (j : ℕ) → size ≤ j → get_or (marks k side r es map) j 0 ≡ get_or map j 0
 unfolding marks
 marks-beyond {es = []} held j h = refl
-marks-beyond {k} {side} {r} {es = e ∷ es} {map} held j h = marks-beyond (held-rest held) j h ∙ pick (one_mark k side r map e j (first_fits held))
+marks-beyond {k} {side} {r} {es = e ∷ es} {map} held j h = marks-beyond {es = es} (held-rest held) j h ∙ pick (one_mark k side r map e j (first_fits held))
   where
     pick : OneMark k side r map e j → get_or (mark k side r map e) j 0 ≡ get_or map j 0
     pick (marked z q v) = absurd (omega (arith, held.inside e (in_first e es) z))
@@ -120,7 +120,7 @@ marks-beyond {k} {side} {r} {es = e ∷ es} {map} held j h = marks-beyond (held-
 pub marks-keep : {k side r size : ℕ} {es map : List ℕ} → Held k side r size es map → (j : ℕ) → mark_bit ≤ get_or map j 0 → mark_bit ≤ get_or (marks k side r es map) j 0
 unfolding marks
 marks-keep {es = []} held j h = h
-marks-keep {k} {side} {r} {es = e ∷ es} {map} held j h = marks-keep (held-rest held) j (pick (one_mark k side r map e j (first_fits held)))
+marks-keep {k} {side} {r} {es = e ∷ es} {map} held j h = marks-keep {es = es} (held-rest held) j (pick (one_mark k side r map e j (first_fits held)))
   where
     pick : OneMark k side r map e j → mark_bit ≤ get_or (mark k side r map e) j 0
     pick (marked z q v) = omega (arith, v)
@@ -129,7 +129,7 @@ marks-keep {k} {side} {r} {es = e ∷ es} {map} held j h = marks-keep (held-rest
 pub marks-set : {k side r size : ℕ} {es map : List ℕ} → Held k side r size es map → (a : ℕ) → In a es → digit a ≡ k → mark_bit ≤ get_or (marks k side r es map) (spot k side a) 0
 unfolding marks
 marks-set {es = []} held a i z = in_none a i
-marks-set {k} {side} {r} {es = e ∷ es} {map} held a i z = pick (in_cases a e es i) (λ l. marks-set (held-rest held) a l z)
+marks-set {k} {side} {r} {es = e ∷ es} {map} held a i z = pick (in_cases a e es i) (λ l. marks-set {es = es} (held-rest held) a l z)
   where
     here : a ≡ e → OneMark k side r map e (spot k side a) → mark_bit ≤ get_or (mark k side r map e) (spot k side a) 0
     here q (marked w p v) = omega (arith, v)
@@ -149,7 +149,7 @@ pub record MarkOf (k side : ℕ) (es : List ℕ) (j : ℕ) : Type 0 where
 pub marks_tell : {k side r size : ℕ} {es map : List ℕ} → Held k side r size es map → (j : ℕ) → mark_bit ≤ get_or (marks k side r es map) j 0 → (mark_bit ≤ get_or map j 0) ⊎ MarkOf k side es j
 unfolding marks
 marks_tell {es = []} held j h = inl h
-marks_tell {k} {side} {r} {es = e ∷ es} {map} held j h = pick (marks_tell (held-rest held) j h)
+marks_tell {k} {side} {r} {es = e ∷ es} {map} held j h = pick (marks_tell {es = es} (held-rest held) j h)
   where
     here : mark_bit ≤ get_or (mark k side r map e) j 0 → OneMark k side r map e j → (mark_bit ≤ get_or map j 0) ⊎ MarkOf k side (e ∷ es) j
     here b (marked z q v) = inr (record { from = e; stands = in_first e es; its_digit = z; place = q })

@@ -111,14 +111,14 @@ module _ {side r s : ℕ} {map₀ : List ℕ} (first : FirstEdge side r s map₀
   pub not_first : (e : ℕ) → Edge (map_at side map₀) r e → digit (step (map_at side map₀) e) ≡ digit e → step (map_at side map₀) e ≢ s
   not_first e h same q = first.corner e h q (sym same ∙ ap digit q)
 
-  pub run-done : {k e e' : ℕ} {map map' : List ℕ} → Straight k side r (map_at side map₀) map' e' map e → Before k side r s map₀ map e → RunDone k side r s map₀ map' e e'
-  run-done {k} {e} {e'} {map} {map'} (turning hm here n) g =
+  pub run-done : {k : ℕ} {map' : List ℕ} {e' : ℕ} {map : List ℕ} {e : ℕ} → Straight k side r (map_at side map₀) map' e' map e → Before k side r s map₀ map e → RunDone k side r s map₀ map' e e'
+  run-done {k} {map'} {e'} {map} {e} (turning hm here n) g =
       let p : After k side r s map₀ map' e' = past first.square g hm here in
       record {
         round = p;
         shorter = λ o. subst (λ a. length (rest (map_at side map₀) s (step (map_at side map₀) e')) < length (rest (map_at side map₀) s a)) here (less first.square p o);
       }
-  run-done {k} {e} {e'} {map} {map'} (straight_on straight more) g =
+  run-done {k} {map'} {e'} {map} {e} (straight_on straight more) g =
       let p : After k side r s map₀ (mark k side r map e) (step (map_at side map₀) e) = past first.square g refl refl in
       let o : step (map_at side map₀) e ≢ s = not_first e g.on_region straight in
       let t : RunDone k side r s map₀ map' (step (map_at side map₀) e) e' = run-done more (onward first.square p o) in

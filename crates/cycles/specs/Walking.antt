@@ -179,14 +179,14 @@ module _ {side r s : ℕ} {map₀ out₀ : List ℕ} (ready : Ready side r s map
     pub passed : PastEdge side r s map₀ out₀ map' out used d e' (sum +ℤ leg_between (tail e) (tail e'))
     pub aligned : Aligned d (tail e) (tail e')
 
-  through : {map map' out : List ℕ} {used d e e' : ℕ} {sum : ℤ} → Straight 0 side r (map_at side map₀) map' e' map e → d ≡ digit e
+  through : {map' : List ℕ} {e' : ℕ} {map : List ℕ} {e : ℕ} {out : List ℕ} {used d : ℕ} {sum : ℤ} → Straight 0 side r (map_at side map₀) map' e' map e → d ≡ digit e
       → AtEdge side r s map₀ out₀ map out used d e sum → Through map' out used d e e' sum
-  through {map} {map'} {out} {used} {d} {e} {e'} {sum} (turning hm here n) same g =
+  through {map'} {e'} {map} {e} {out} {used} {d} {sum} (turning hm here n) same g =
       record {
         passed = pass g same hm here;
         aligned = subst₂ (λ o a. Aligned o (tail e) (tail a)) (sym same) (sym here) (edge_aligned (map_at side map₀) margin_here r e g.round.on_region);
       }
-  through {map} {map'} {out} {used} {d} {e} {e'} {sum} (straight_on straight more) same g =
+  through {map'} {e'} {map} {e} {out} {used} {d} {sum} (straight_on straight more) same g =
       let next : ℕ = step (map_at side map₀) e in
       let p : PastEdge side r s map₀ out₀ (mark 0 side r map e) out used d next (sum +ℤ leg_between (tail e) (tail next)) = pass g same refl refl in
       let o : next ≢ s = not_first ready.first e g.round.on_region straight in

@@ -1,17 +1,16 @@
 use mathlib.Core.Path.{◌≡◌, refl, ap, ◌∙◌}
 use Prim.Native.Nat.{◌+◌, ◌≤◌, ◌<◌}
 use native.Mathlib.Omega.{arith}
-use lib.ListN.{length, set, length-set}
+use lib.ListN.{length, length-set}
 use lib.IntN.{nat_abs, ◌+ℤ◌}
 use mir.Syntax.{w32}
 use mir.Val.{of_z, to_z}
 use Rattle.lattice.specs.Directions.{point}
-use Rattle.steps.specs.Rule.{Way}
-use Rattle.cycles.specs.Points.{EdgeAt, way_at}
+use Rattle.cycles.specs.Points.{way_at}
 use Rattle.sequences.specs.SignedBits.{fits, read_back}
 use Rattle.cycles.specs.Areas.{area_bound, leg_size}
 use Rattle.cycles.specs.Rounds.{start_low}
-use Rattle.cycles.specs.Walking.{with_leg, due_at_start, due_room, due_at, OneCornerMore, one_corner_more, ColumnDue, row_done}
+use Rattle.cycles.specs.Walking.{with_leg, due_at_start, due_room, due_at, one_corner_more, row_done}
 use Rattle.cycles.proofs.walk.Goals as goal
 
 pub loop-y-init : goal.loop-y-init
@@ -19,12 +18,12 @@ loop-y-init c = (due_at_start c.args.column c.args.row c.requires.0 c.requires.1
 
 pub overflow_mul-corners : goal.overflow_mul-corners
 overflow_mul-corners c =
-    let edge_here : EdgeAt c.args.side c.args.r c.loop-y.map c.loop-y.x c.loop-y.y c.loop-y.d = due_at c.requires.0 c.loop-y.invariant.0 in
+    let edge_here = due_at c.requires.0 c.loop-y.invariant.0 in
     let w = way_at edge_here in omega (arith, w.x_low, w.y_low)
 
 pub overflow_add-corners : goal.overflow_add-corners
 overflow_add-corners c =
-    let edge_here : EdgeAt c.args.side c.args.r c.loop-y.map c.loop-y.x c.loop-y.y c.loop-y.d = due_at c.requires.0 c.loop-y.invariant.0 in
+    let edge_here = due_at c.requires.0 c.loop-y.invariant.0 in
     let w = way_at edge_here in omega (arith, w.x_low, w.y_low)
 
 pub offset_bounds-corners-used : goal.offset_bounds-corners-used
@@ -39,27 +38,24 @@ bounds-corners-used c =
 
 pub along_row-turn-requires : goal.along_row-turn-requires
 along_row-turn-requires c =
-    let edge_here : EdgeAt c.args.side c.args.r c.loop-y.map c.loop-y.x c.loop-y.y c.loop-y.d = due_at c.requires.0 c.loop-y.invariant.0 in
+    let edge_here = due_at c.requires.0 c.loop-y.invariant.0 in
     (edge_here, c.loop-y.invariant.1)
 
 pub overflow_mul-corners-in-loop-y : goal.overflow_mul-corners-in-loop-y
 overflow_mul-corners-in-loop-y c =
-    let column-due : let l = c.loop-y in ColumnDue c.args.column c.args.row c.requires.0 l.inv.0 c.along_row-turn.new.0 c.along_row-turn.result.x c.along_row-turn.result.y c.along_row-turn.result.d =
-    row_done c.args.column c.args.row c.requires.0 c.loop-y.invariant.0 c.loop-y.invariant.1 c.along_row-turn.ensures in
-    let edge-there : let c = c.args in EdgeAt c.side c.r c.along_row-turn.new.0 c.along_row-turn.result.x c.along_row-turn.result.y c.along_row-turn.result.d = due_at c.requires.0 column-due.due in
+    let column-due = row_done c.args.column c.args.row c.requires.0 c.loop-y.invariant.0 c.loop-y.invariant.1 c.along_row-turn.ensures in
+    let edge-there = due_at c.requires.0 column-due.due in
     let w = way_at edge-there in omega (arith, w.x_low, w.y_low)
 
 pub overflow_add-corners-in-loop-y : goal.overflow_add-corners-in-loop-y
 overflow_add-corners-in-loop-y c =
-    let column-due : let l = c.loop-y in ColumnDue c.args.column c.args.row c.requires.0 l.inv.0 c.along_row-turn.new.0 c.along_row-turn.result.x c.along_row-turn.result.y c.along_row-turn.result.d =
-    row_done c.args.column c.args.row c.requires.0 c.loop-y.invariant.0 c.loop-y.invariant.1 c.along_row-turn.ensures in
-    let edge-there : let c = c.args in EdgeAt c.side c.r c.along_row-turn.new.0 c.along_row-turn.result.x c.along_row-turn.result.y c.along_row-turn.result.d = due_at c.requires.0 column-due.due in
+    let column-due = row_done c.args.column c.args.row c.requires.0 c.loop-y.invariant.0 c.loop-y.invariant.1 c.along_row-turn.ensures in
+    let edge-there = due_at c.requires.0 column-due.due in
     let w = way_at edge-there in omega (arith, w.x_low, w.y_low)
 
 pub overflow_add-corners-in-loop-y-2 : goal.overflow_add-corners-in-loop-y-2
 overflow_add-corners-in-loop-y-2 c =
-    let column-due : let l = c.loop-y in ColumnDue c.args.column c.args.row c.requires.0 l.inv.0 c.along_row-turn.new.0 c.along_row-turn.result.x c.along_row-turn.result.y c.along_row-turn.result.d =
-    row_done c.args.column c.args.row c.requires.0 c.loop-y.invariant.0 c.loop-y.invariant.1 c.along_row-turn.ensures in
+    let column-due = row_done c.args.column c.args.row c.requires.0 c.loop-y.invariant.0 c.loop-y.invariant.1 c.along_row-turn.ensures in
     let room-there : c.loop-y.used + 1 < length c.loop-y.corners =
     let l = c.loop-y in
     omega (arith, due_room c.requires.0 column-due.due, length-set l.corners l.used (point l.x l.y)) in
@@ -67,8 +63,7 @@ overflow_add-corners-in-loop-y-2 c =
 
 pub offset_bounds-corners-used-in-loop-y : goal.offset_bounds-corners-used-in-loop-y
 offset_bounds-corners-used-in-loop-y c =
-    let column-due : let l = c.loop-y in ColumnDue c.args.column c.args.row c.requires.0 l.inv.0 c.along_row-turn.new.0 c.along_row-turn.result.x c.along_row-turn.result.y c.along_row-turn.result.d =
-    row_done c.args.column c.args.row c.requires.0 c.loop-y.invariant.0 c.loop-y.invariant.1 c.along_row-turn.ensures in
+    let column-due = row_done c.args.column c.args.row c.requires.0 c.loop-y.invariant.0 c.loop-y.invariant.1 c.along_row-turn.ensures in
     let room-there : c.loop-y.used + 1 < length c.loop-y.corners =
     let l = c.loop-y in
     omega (arith, due_room c.requires.0 column-due.due, length-set l.corners l.used (point l.x l.y)) in
@@ -77,21 +72,18 @@ offset_bounds-corners-used-in-loop-y c =
 pub bounds-corners-used-in-loop-y : goal.bounds-corners-used-in-loop-y
 unfolding point
 bounds-corners-used-in-loop-y c =
-    let column-due : let l = c.loop-y in ColumnDue c.args.column c.args.row c.requires.0 l.inv.0 c.along_row-turn.new.0 c.along_row-turn.result.x c.along_row-turn.result.y c.along_row-turn.result.d =
-    row_done c.args.column c.args.row c.requires.0 c.loop-y.invariant.0 c.loop-y.invariant.1 c.along_row-turn.ensures in
+    let column-due = row_done c.args.column c.args.row c.requires.0 c.loop-y.invariant.0 c.loop-y.invariant.1 c.along_row-turn.ensures in
     due_room c.requires.0 column-due.due
 
 pub along_column-next-requires : goal.along_column-next-requires
 along_column-next-requires c =
-    let column-due : let l = c.loop-y in ColumnDue c.args.column c.args.row c.requires.0 l.inv.0 c.along_row-turn.new.0 c.along_row-turn.result.x c.along_row-turn.result.y c.along_row-turn.result.d =
-    row_done c.args.column c.args.row c.requires.0 c.loop-y.invariant.0 c.loop-y.invariant.1 c.along_row-turn.ensures in
-    let edge-there : let c = c.args in EdgeAt c.side c.r c.along_row-turn.new.0 c.along_row-turn.result.x c.along_row-turn.result.y c.along_row-turn.result.d = due_at c.requires.0 column-due.due in
+    let column-due = row_done c.args.column c.args.row c.requires.0 c.loop-y.invariant.0 c.loop-y.invariant.1 c.along_row-turn.ensures in
+    let edge-there = due_at c.requires.0 column-due.due in
     (edge-there, column-due.odd)
 
 pub overflow_add-used : goal.overflow_add-used
 overflow_add-used c =
-    let column-due : let l = c.loop-y in ColumnDue c.args.column c.args.row c.requires.0 l.inv.0 c.along_row-turn.new.0 c.along_row-turn.result.x c.along_row-turn.result.y c.along_row-turn.result.d =
-    row_done c.args.column c.args.row c.requires.0 c.loop-y.invariant.0 c.loop-y.invariant.1 c.along_row-turn.ensures in
+    let column-due = row_done c.args.column c.args.row c.requires.0 c.loop-y.invariant.0 c.loop-y.invariant.1 c.along_row-turn.ensures in
     let room-there : c.loop-y.used + 1 < length c.loop-y.corners =
     let l = c.loop-y in
     omega (arith, due_room c.requires.0 column-due.due, length-set l.corners l.used (point l.x l.y)) in
@@ -99,135 +91,114 @@ overflow_add-used c =
 
 pub leg_area-requires : goal.leg_area-requires
 leg_area-requires c =
-    let edge_here : EdgeAt c.args.side c.args.r c.loop-y.map c.loop-y.x c.loop-y.y c.loop-y.d = due_at c.requires.0 c.loop-y.invariant.0 in
-    let column-due : let l = c.loop-y in ColumnDue c.args.column c.args.row c.requires.0 l.inv.0 c.along_row-turn.new.0 c.along_row-turn.result.x c.along_row-turn.result.y c.along_row-turn.result.d =
-    row_done c.args.column c.args.row c.requires.0 c.loop-y.invariant.0 c.loop-y.invariant.1 c.along_row-turn.ensures in
-    let edge-there : let c = c.args in EdgeAt c.side c.r c.along_row-turn.new.0 c.along_row-turn.result.x c.along_row-turn.result.y c.along_row-turn.result.d = due_at c.requires.0 column-due.due in
+    let edge_here = due_at c.requires.0 c.loop-y.invariant.0 in
+    let column-due = row_done c.args.column c.args.row c.requires.0 c.loop-y.invariant.0 c.loop-y.invariant.1 c.along_row-turn.ensures in
+    let edge-there = due_at c.requires.0 column-due.due in
     let a = way_at edge_here in
-    let c = way_at edge-there in
-    omega (arith, a.x_low, a.y_low, c.x_low, c.y_low, c.along_column-next.ensures.y_low)
+    let b = way_at edge-there in
+    omega (arith, a.x_low, a.y_low, b.x_low, b.y_low, c.along_column-next.ensures.y_low)
 
 pub overflow_add-sum : goal.overflow_add-sum
 overflow_add-sum c =
-    let column-due : let l = c.loop-y in ColumnDue c.args.column c.args.row c.requires.0 l.inv.0 c.along_row-turn.new.0 c.along_row-turn.result.x c.along_row-turn.result.y c.along_row-turn.result.d =
-    row_done c.args.column c.args.row c.requires.0 c.loop-y.invariant.0 c.loop-y.invariant.1 c.along_row-turn.ensures in
-    let turn-done : let l = c.loop-y in let a = c.args in let t = c.along_row-turn.result in OneCornerMore a.side a.r a.column a.row a.map.now a.corners.now c.along_column-next.new.0 (set (set l.corners l.used (point l.x l.y)) (l.used + 1) (point t.x t.y)) (l.used + 2) (with_leg (to_z w32 l.area) t.x t.y c.along_column-next.result.y) t.x t.y t.d c.along_column-next.result.x c.along_column-next.result.y c.along_column-next.result.d =
-    one_corner_more c.args.column c.args.row c.requires.0 column-due.due (c.loop-y.used + 2) (omega arith) c.along_column-next.ensures in
-    let edge-there : let c = c.args in EdgeAt c.side c.r c.along_row-turn.new.0 c.along_row-turn.result.x c.along_row-turn.result.y c.along_row-turn.result.d = due_at c.requires.0 column-due.due in
+    let column-due = row_done c.args.column c.args.row c.requires.0 c.loop-y.invariant.0 c.loop-y.invariant.1 c.along_row-turn.ensures in
+    let turn-done = one_corner_more c.args.column c.args.row c.requires.0 column-due.due (c.loop-y.used + 2) (omega arith) c.along_column-next.ensures in
+    let edge-there = due_at c.requires.0 column-due.due in
     let low_column : (c.along_row-turn.result.x ≤ 256) × (c.along_row-turn.result.y ≤ 256) × (c.along_column-next.result.y ≤ 256) = let w = way_at edge-there in (w.x_low, w.y_low, c.along_column-next.ensures.y_low) in
-    let leg-read : let t = c.along_row-turn.result in to_z w32 c.loop-y.area +ℤ to_z w32 (of_z w32 c.leg_area.result) ≡ with_leg (to_z w32 c.loop-y.area) t.x t.y c.along_column-next.result.y =
+    let leg-read : let t = c.along_row-turn.result in to_z w32 c.loop-y.area-bits +ℤ to_z w32 (of_z w32 c.leg_area.result) ≡ with_leg (to_z w32 c.loop-y.area-bits) t.x t.y c.along_column-next.result.y =
     let t = c.along_row-turn.result in
-    ap (λ z. to_z w32 c.loop-y.area +ℤ z)
+    ap (λ z. to_z w32 c.loop-y.area-bits +ℤ z)
     (ap (λ z. to_z w32 (of_z w32 z)) c.leg_area.ensures
     ∙ read_back _ (omega (arith, leg_size t.x t.y c.along_column-next.result.y low_column))) in
-    let sum-small : nat_abs (to_z w32 c.loop-y.area +ℤ to_z w32 (of_z w32 c.leg_area.result)) ≤ area_bound = omega (arith, ap nat_abs leg-read, turn-done.size) in
+    let sum-small : nat_abs (to_z w32 c.loop-y.area-bits +ℤ to_z w32 (of_z w32 c.leg_area.result)) ≤ area_bound = omega (arith, ap nat_abs leg-read, turn-done.size) in
     fits _ (omega (arith, sum-small))
 
 pub overflow_mul-y : goal.overflow_mul-y
 overflow_mul-y c =
-    let column-due : let l = c.loop-y in ColumnDue c.args.column c.args.row c.requires.0 l.inv.0 c.along_row-turn.new.0 c.along_row-turn.result.x c.along_row-turn.result.y c.along_row-turn.result.d =
-    row_done c.args.column c.args.row c.requires.0 c.loop-y.invariant.0 c.loop-y.invariant.1 c.along_row-turn.ensures in
-    let turn-done : let l = c.loop-y in let a = c.args in let t = c.along_row-turn.result in OneCornerMore a.side a.r a.column a.row a.map.now a.corners.now c.along_column-next.new.0 (set (set l.corners l.used (point l.x l.y)) (l.used + 1) (point t.x t.y)) (l.used + 2) (with_leg (to_z w32 l.area) t.x t.y c.along_column-next.result.y) t.x t.y t.d c.along_column-next.result.x c.along_column-next.result.y c.along_column-next.result.d =
-    one_corner_more c.args.column c.args.row c.requires.0 column-due.due (c.loop-y.used + 2) (omega arith) c.along_column-next.ensures in
+    let column-due = row_done c.args.column c.args.row c.requires.0 c.loop-y.invariant.0 c.loop-y.invariant.1 c.along_row-turn.ensures in
+    let turn-done = one_corner_more c.args.column c.args.row c.requires.0 column-due.due (c.loop-y.used + 2) (omega arith) c.along_column-next.ensures in
     omega (arith, turn-done.low)
 
 pub overflow_add-y : goal.overflow_add-y
 overflow_add-y c =
-    let column-due : let l = c.loop-y in ColumnDue c.args.column c.args.row c.requires.0 l.inv.0 c.along_row-turn.new.0 c.along_row-turn.result.x c.along_row-turn.result.y c.along_row-turn.result.d =
-    row_done c.args.column c.args.row c.requires.0 c.loop-y.invariant.0 c.loop-y.invariant.1 c.along_row-turn.ensures in
-    let turn-done : let l = c.loop-y in let a = c.args in let t = c.along_row-turn.result in OneCornerMore a.side a.r a.column a.row a.map.now a.corners.now c.along_column-next.new.0 (set (set l.corners l.used (point l.x l.y)) (l.used + 1) (point t.x t.y)) (l.used + 2) (with_leg (to_z w32 l.area) t.x t.y c.along_column-next.result.y) t.x t.y t.d c.along_column-next.result.x c.along_column-next.result.y c.along_column-next.result.d =
-    one_corner_more c.args.column c.args.row c.requires.0 column-due.due (c.loop-y.used + 2) (omega arith) c.along_column-next.ensures in
+    let column-due = row_done c.args.column c.args.row c.requires.0 c.loop-y.invariant.0 c.loop-y.invariant.1 c.along_row-turn.ensures in
+    let turn-done = one_corner_more c.args.column c.args.row c.requires.0 column-due.due (c.loop-y.used + 2) (omega arith) c.along_column-next.ensures in
     omega (arith, turn-done.low)
 
 pub overflow_mul-y-in-loop-y : goal.overflow_mul-y-in-loop-y
 overflow_mul-y-in-loop-y c =
-    let column-due : let l = c.loop-y in ColumnDue c.args.column c.args.row c.requires.0 l.inv.0 c.along_row-turn.new.0 c.along_row-turn.result.x c.along_row-turn.result.y c.along_row-turn.result.d =
-    row_done c.args.column c.args.row c.requires.0 c.loop-y.invariant.0 c.loop-y.invariant.1 c.along_row-turn.ensures in
-    let turn-done : let l = c.loop-y in let a = c.args in let t = c.along_row-turn.result in OneCornerMore a.side a.r a.column a.row a.map.now a.corners.now c.along_column-next.new.0 (set (set l.corners l.used (point l.x l.y)) (l.used + 1) (point t.x t.y)) (l.used + 2) (with_leg (to_z w32 l.area) t.x t.y c.along_column-next.result.y) t.x t.y t.d c.along_column-next.result.x c.along_column-next.result.y c.along_column-next.result.d =
-    one_corner_more c.args.column c.args.row c.requires.0 column-due.due (c.loop-y.used + 2) (omega arith) c.along_column-next.ensures in
+    let column-due = row_done c.args.column c.args.row c.requires.0 c.loop-y.invariant.0 c.loop-y.invariant.1 c.along_row-turn.ensures in
+    let turn-done = one_corner_more c.args.column c.args.row c.requires.0 column-due.due (c.loop-y.used + 2) (omega arith) c.along_column-next.ensures in
     omega (arith, turn-done.low)
 
 pub overflow_add-y-in-loop-y : goal.overflow_add-y-in-loop-y
 overflow_add-y-in-loop-y c =
-    let column-due : let l = c.loop-y in ColumnDue c.args.column c.args.row c.requires.0 l.inv.0 c.along_row-turn.new.0 c.along_row-turn.result.x c.along_row-turn.result.y c.along_row-turn.result.d =
-    row_done c.args.column c.args.row c.requires.0 c.loop-y.invariant.0 c.loop-y.invariant.1 c.along_row-turn.ensures in
-    let turn-done : let l = c.loop-y in let a = c.args in let t = c.along_row-turn.result in OneCornerMore a.side a.r a.column a.row a.map.now a.corners.now c.along_column-next.new.0 (set (set l.corners l.used (point l.x l.y)) (l.used + 1) (point t.x t.y)) (l.used + 2) (with_leg (to_z w32 l.area) t.x t.y c.along_column-next.result.y) t.x t.y t.d c.along_column-next.result.x c.along_column-next.result.y c.along_column-next.result.d =
-    one_corner_more c.args.column c.args.row c.requires.0 column-due.due (c.loop-y.used + 2) (omega arith) c.along_column-next.ensures in
+    let column-due = row_done c.args.column c.args.row c.requires.0 c.loop-y.invariant.0 c.loop-y.invariant.1 c.along_row-turn.ensures in
+    let turn-done = one_corner_more c.args.column c.args.row c.requires.0 column-due.due (c.loop-y.used + 2) (omega arith) c.along_column-next.ensures in
     omega (arith, turn-done.low)
 
 pub overflow_mul-row : goal.overflow_mul-row
 overflow_mul-row c =
-    let start-here : let a = c.args in Way a.column a.row 0 = start_low c.args.column c.args.row c.requires.0.first c.requires.1 in
+    let start-here = start_low c.args.column c.args.row c.requires.0.first c.requires.1 in
     let w = start-here in omega (arith, w.x_low, w.y_low)
 
 pub overflow_add-row : goal.overflow_add-row
 overflow_add-row c =
-    let start-here : let a = c.args in Way a.column a.row 0 = start_low c.args.column c.args.row c.requires.0.first c.requires.1 in
+    let start-here = start_low c.args.column c.args.row c.requires.0.first c.requires.1 in
     let w = start-here in omega (arith, w.x_low, w.y_low)
 
 pub overflow_mul-row-in-loop-y : goal.overflow_mul-row-in-loop-y
 overflow_mul-row-in-loop-y c =
-    let start-here : let a = c.args in Way a.column a.row 0 = start_low c.args.column c.args.row c.requires.0.first c.requires.1 in
+    let start-here = start_low c.args.column c.args.row c.requires.0.first c.requires.1 in
     let w = start-here in omega (arith, w.x_low, w.y_low)
 
 pub shape_of-map-then-y-x : goal.shape_of-map-then-y-x
 shape_of-map-then-y-x c =
-    let column-due : let l = c.loop-y in ColumnDue c.args.column c.args.row c.requires.0 l.inv.0 c.along_row-turn.new.0 c.along_row-turn.result.x c.along_row-turn.result.y c.along_row-turn.result.d =
-    row_done c.args.column c.args.row c.requires.0 c.loop-y.invariant.0 c.loop-y.invariant.1 c.along_row-turn.ensures in
-    let turn-done : let l = c.loop-y in let a = c.args in let t = c.along_row-turn.result in OneCornerMore a.side a.r a.column a.row a.map.now a.corners.now c.along_column-next.new.0 (set (set l.corners l.used (point l.x l.y)) (l.used + 1) (point t.x t.y)) (l.used + 2) (with_leg (to_z w32 l.area) t.x t.y c.along_column-next.result.y) t.x t.y t.d c.along_column-next.result.x c.along_column-next.result.y c.along_column-next.result.d =
-    one_corner_more c.args.column c.args.row c.requires.0 column-due.due (c.loop-y.used + 2) (omega arith) c.along_column-next.ensures in
+    let column-due = row_done c.args.column c.args.row c.requires.0 c.loop-y.invariant.0 c.loop-y.invariant.1 c.along_row-turn.ensures in
+    let turn-done = one_corner_more c.args.column c.args.row c.requires.0 column-due.due (c.loop-y.used + 2) (omega arith) c.along_column-next.ensures in
     turn-done.long
 
 pub shape_of-corners-then-y-x : goal.shape_of-corners-then-y-x
 unfolding point
 shape_of-corners-then-y-x c =
-    let column-due : let l = c.loop-y in ColumnDue c.args.column c.args.row c.requires.0 l.inv.0 c.along_row-turn.new.0 c.along_row-turn.result.x c.along_row-turn.result.y c.along_row-turn.result.d =
-    row_done c.args.column c.args.row c.requires.0 c.loop-y.invariant.0 c.loop-y.invariant.1 c.along_row-turn.ensures in
-    let turn-done : let l = c.loop-y in let a = c.args in let t = c.along_row-turn.result in OneCornerMore a.side a.r a.column a.row a.map.now a.corners.now c.along_column-next.new.0 (set (set l.corners l.used (point l.x l.y)) (l.used + 1) (point t.x t.y)) (l.used + 2) (with_leg (to_z w32 l.area) t.x t.y c.along_column-next.result.y) t.x t.y t.d c.along_column-next.result.x c.along_column-next.result.y c.along_column-next.result.d =
-    one_corner_more c.args.column c.args.row c.requires.0 column-due.due (c.loop-y.used + 2) (omega arith) c.along_column-next.ensures in
+    let column-due = row_done c.args.column c.args.row c.requires.0 c.loop-y.invariant.0 c.loop-y.invariant.1 c.along_row-turn.ensures in
+    let turn-done = one_corner_more c.args.column c.args.row c.requires.0 column-due.due (c.loop-y.used + 2) (omega arith) c.along_column-next.ensures in
     turn-done.wide
 
 pub returns-then-y-x : goal.returns-then-y-x
 unfolding point
 returns-then-y-x c =
-    let column-due : let l = c.loop-y in ColumnDue c.args.column c.args.row c.requires.0 l.inv.0 c.along_row-turn.new.0 c.along_row-turn.result.x c.along_row-turn.result.y c.along_row-turn.result.d =
-    row_done c.args.column c.args.row c.requires.0 c.loop-y.invariant.0 c.loop-y.invariant.1 c.along_row-turn.ensures in
-    let turn-done : let l = c.loop-y in let a = c.args in let t = c.along_row-turn.result in OneCornerMore a.side a.r a.column a.row a.map.now a.corners.now c.along_column-next.new.0 (set (set l.corners l.used (point l.x l.y)) (l.used + 1) (point t.x t.y)) (l.used + 2) (with_leg (to_z w32 l.area) t.x t.y c.along_column-next.result.y) t.x t.y t.d c.along_column-next.result.x c.along_column-next.result.y c.along_column-next.result.d =
-    one_corner_more c.args.column c.args.row c.requires.0 column-due.due (c.loop-y.used + 2) (omega arith) c.along_column-next.ensures in
-    let edge-there : let c = c.args in EdgeAt c.side c.r c.along_row-turn.new.0 c.along_row-turn.result.x c.along_row-turn.result.y c.along_row-turn.result.d = due_at c.requires.0 column-due.due in
+    let column-due = row_done c.args.column c.args.row c.requires.0 c.loop-y.invariant.0 c.loop-y.invariant.1 c.along_row-turn.ensures in
+    let turn-done = one_corner_more c.args.column c.args.row c.requires.0 column-due.due (c.loop-y.used + 2) (omega arith) c.along_column-next.ensures in
+    let edge-there = due_at c.requires.0 column-due.due in
     let low_column : (c.along_row-turn.result.x ≤ 256) × (c.along_row-turn.result.y ≤ 256) × (c.along_column-next.result.y ≤ 256) = let w = way_at edge-there in (w.x_low, w.y_low, c.along_column-next.ensures.y_low) in
-    let leg-read : let t = c.along_row-turn.result in to_z w32 c.loop-y.area +ℤ to_z w32 (of_z w32 c.leg_area.result) ≡ with_leg (to_z w32 c.loop-y.area) t.x t.y c.along_column-next.result.y =
+    let leg-read : let t = c.along_row-turn.result in to_z w32 c.loop-y.area-bits +ℤ to_z w32 (of_z w32 c.leg_area.result) ≡ with_leg (to_z w32 c.loop-y.area-bits) t.x t.y c.along_column-next.result.y =
     let t = c.along_row-turn.result in
-    ap (λ z. to_z w32 c.loop-y.area +ℤ z)
+    ap (λ z. to_z w32 c.loop-y.area-bits +ℤ z)
     (ap (λ z. to_z w32 (of_z w32 z)) c.leg_area.ensures
     ∙ read_back _ (omega (arith, leg_size t.x t.y c.along_column-next.result.y low_column))) in
-    let sum-small : nat_abs (to_z w32 c.loop-y.area +ℤ to_z w32 (of_z w32 c.leg_area.result)) ≤ area_bound = omega (arith, ap nat_abs leg-read, turn-done.size) in
-    let sum-read : let t = c.along_row-turn.result in to_z w32 (of_z w32 (to_z w32 c.loop-y.area +ℤ to_z w32 (of_z w32 c.leg_area.result))) ≡ with_leg (to_z w32 c.loop-y.area) t.x t.y c.along_column-next.result.y = read_back _ (omega (arith, sum-small)) ∙ leg-read in
+    let sum-small : nat_abs (to_z w32 c.loop-y.area-bits +ℤ to_z w32 (of_z w32 c.leg_area.result)) ≤ area_bound = omega (arith, ap nat_abs leg-read, turn-done.size) in
+    let sum-read : let t = c.along_row-turn.result in to_z w32 (of_z w32 (to_z w32 c.loop-y.area-bits +ℤ to_z w32 (of_z w32 c.leg_area.result))) ≡ with_leg (to_z w32 c.loop-y.area-bits) t.x t.y c.along_column-next.result.y = read_back _ (omega (arith, sum-small)) ∙ leg-read in
     turn-done.ends sum-read c.if-y-x.true
 
 pub loop-y-smaller : goal.loop-y-smaller
 unfolding point
 loop-y-smaller c =
-    let column-due : let l = c.loop-y in ColumnDue c.args.column c.args.row c.requires.0 l.inv.0 c.along_row-turn.new.0 c.along_row-turn.result.x c.along_row-turn.result.y c.along_row-turn.result.d =
-    row_done c.args.column c.args.row c.requires.0 c.loop-y.invariant.0 c.loop-y.invariant.1 c.along_row-turn.ensures in
-    let turn-done : let l = c.loop-y in let a = c.args in let t = c.along_row-turn.result in OneCornerMore a.side a.r a.column a.row a.map.now a.corners.now c.along_column-next.new.0 (set (set l.corners l.used (point l.x l.y)) (l.used + 1) (point t.x t.y)) (l.used + 2) (with_leg (to_z w32 l.area) t.x t.y c.along_column-next.result.y) t.x t.y t.d c.along_column-next.result.x c.along_column-next.result.y c.along_column-next.result.d =
-    one_corner_more c.args.column c.args.row c.requires.0 column-due.due (c.loop-y.used + 2) (omega arith) c.along_column-next.ensures in
+    let column-due = row_done c.args.column c.args.row c.requires.0 c.loop-y.invariant.0 c.loop-y.invariant.1 c.along_row-turn.ensures in
+    let turn-done = one_corner_more c.args.column c.args.row c.requires.0 column-due.due (c.loop-y.used + 2) (omega arith) c.along_column-next.ensures in
     omega (arith, turn-done.shorter c.if-y-x.false, column-due.nearer)
 
 pub loop-y-preserved : goal.loop-y-preserved
 unfolding point
 loop-y-preserved c =
-    let column-due : let l = c.loop-y in ColumnDue c.args.column c.args.row c.requires.0 l.inv.0 c.along_row-turn.new.0 c.along_row-turn.result.x c.along_row-turn.result.y c.along_row-turn.result.d =
-    row_done c.args.column c.args.row c.requires.0 c.loop-y.invariant.0 c.loop-y.invariant.1 c.along_row-turn.ensures in
-    let turn-done : let l = c.loop-y in let a = c.args in let t = c.along_row-turn.result in OneCornerMore a.side a.r a.column a.row a.map.now a.corners.now c.along_column-next.new.0 (set (set l.corners l.used (point l.x l.y)) (l.used + 1) (point t.x t.y)) (l.used + 2) (with_leg (to_z w32 l.area) t.x t.y c.along_column-next.result.y) t.x t.y t.d c.along_column-next.result.x c.along_column-next.result.y c.along_column-next.result.d =
-    one_corner_more c.args.column c.args.row c.requires.0 column-due.due (c.loop-y.used + 2) (omega arith) c.along_column-next.ensures in
-    let edge-there : let c = c.args in EdgeAt c.side c.r c.along_row-turn.new.0 c.along_row-turn.result.x c.along_row-turn.result.y c.along_row-turn.result.d = due_at c.requires.0 column-due.due in
+    let column-due = row_done c.args.column c.args.row c.requires.0 c.loop-y.invariant.0 c.loop-y.invariant.1 c.along_row-turn.ensures in
+    let turn-done = one_corner_more c.args.column c.args.row c.requires.0 column-due.due (c.loop-y.used + 2) (omega arith) c.along_column-next.ensures in
+    let edge-there = due_at c.requires.0 column-due.due in
     let low_column : (c.along_row-turn.result.x ≤ 256) × (c.along_row-turn.result.y ≤ 256) × (c.along_column-next.result.y ≤ 256) = let w = way_at edge-there in (w.x_low, w.y_low, c.along_column-next.ensures.y_low) in
-    let leg-read : let t = c.along_row-turn.result in to_z w32 c.loop-y.area +ℤ to_z w32 (of_z w32 c.leg_area.result) ≡ with_leg (to_z w32 c.loop-y.area) t.x t.y c.along_column-next.result.y =
+    let leg-read : let t = c.along_row-turn.result in to_z w32 c.loop-y.area-bits +ℤ to_z w32 (of_z w32 c.leg_area.result) ≡ with_leg (to_z w32 c.loop-y.area-bits) t.x t.y c.along_column-next.result.y =
     let t = c.along_row-turn.result in
-    ap (λ z. to_z w32 c.loop-y.area +ℤ z)
+    ap (λ z. to_z w32 c.loop-y.area-bits +ℤ z)
     (ap (λ z. to_z w32 (of_z w32 z)) c.leg_area.ensures
     ∙ read_back _ (omega (arith, leg_size t.x t.y c.along_column-next.result.y low_column))) in
-    let sum-small : nat_abs (to_z w32 c.loop-y.area +ℤ to_z w32 (of_z w32 c.leg_area.result)) ≤ area_bound = omega (arith, ap nat_abs leg-read, turn-done.size) in
-    let sum-read : let t = c.along_row-turn.result in to_z w32 (of_z w32 (to_z w32 c.loop-y.area +ℤ to_z w32 (of_z w32 c.leg_area.result))) ≡ with_leg (to_z w32 c.loop-y.area) t.x t.y c.along_column-next.result.y = read_back _ (omega (arith, sum-small)) ∙ leg-read in
+    let sum-small : nat_abs (to_z w32 c.loop-y.area-bits +ℤ to_z w32 (of_z w32 c.leg_area.result)) ≤ area_bound = omega (arith, ap nat_abs leg-read, turn-done.size) in
+    let sum-read : let t = c.along_row-turn.result in to_z w32 (of_z w32 (to_z w32 c.loop-y.area-bits +ℤ to_z w32 (of_z w32 c.leg_area.result))) ≡ with_leg (to_z w32 c.loop-y.area-bits) t.x t.y c.along_column-next.result.y = read_back _ (omega (arith, sum-small)) ∙ leg-read in
     (turn-done.again sum-read c.if-y-x.false, omega (arith, c.along_column-next.ensures.turned, column-due.odd))

@@ -2,8 +2,6 @@
 -- that of the edges walked, and a run along a row comes next. The measure: the edges that are left.
 use mathlib.Core.Path.{◌≡◌}
 use Prim.Native.Nat.{◌%◌}
-use mir.Syntax.{w32}
-use mir.Val.{to_z}
 use Rattle.lattice.specs.Directions.{point, edge}
 use Rattle.cycles.specs.Rounds.{left_after}
 use Rattle.cycles.specs.Walking.{CornerDue}
@@ -11,7 +9,7 @@ use Rattle.cycles.proofs.walk.Given as goal
 
 abbrev pub invariant-loop-y : goal.invariant-loop-y
 invariant-loop-y l =
-    CornerDue l.side l.r (edge (point l.column l.row) 0) l.initial.map l.initial.corners l.map l.corners l.used (to_z w32 l.area) l.x l.y l.d × (l.d % 2 ≡ 0)
+    CornerDue l.side l.r (edge (point l.column l.row) 0) l.initial.map l.initial.corners l.map l.corners l.used l.area l.x l.y l.d × (l.d % 2 ≡ 0)
 
 abbrev pub decreases-loop-y : goal.decreases-loop-y
 decreases-loop-y l = left_after l.side (edge (point l.column l.row) 0) l.initial.map l.x l.y l.d
