@@ -13,7 +13,7 @@ join_one-requires-then-s-eq1 c =
     span_after spans.west joined.long joined.low
 
 pub returns-then-s-eq1 : goal.returns-then-s-eq1
-returns-then-s-eq1 c = single_joined c.if-s-eq1.true (record { between = _; c = c.join_one.ensures; c = c.join_one-then-s-eq1.ensures })
+returns-then-s-eq1 c = single_joined c.if-s-eq1.true (record { between = _; north = c.join_one.ensures; west = c.join_one-then-s-eq1.ensures })
 
 pub shape_of-parents-then-s-eq1 : goal.shape_of-parents-then-s-eq1
 shape_of-parents-then-s-eq1 c = c.join_one-then-s-eq1.ensures.long ∙ c.join_one.ensures.long
@@ -28,4 +28,4 @@ pub shape_of-parents : goal.shape_of-parents
 shape_of-parents c = c.join_span-2.ensures.long ∙ c.join_span.ensures.long
 
 pub returns : goal.returns
-returns c = record { between = _; north = c.join_span.ensures; c = c.join_span-2.ensures }
+returns c = record { between = _; north = c.join_span.ensures; west = c.join_span-2.ensures }

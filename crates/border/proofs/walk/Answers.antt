@@ -1,5 +1,5 @@
 use Rattle.border.specs.Walk.{LiesAt, few_blocks, walk_begins, parents-kept, walk_ends, lies_at, spans, storable, again}
-use Prim.Native.Nat.{◌-◌, ◌<◌}
+use Prim.Native.Nat.{◌<◌}
 use native.Mathlib.Omega.{arith}
 use Rattle.border.proofs.walk.Goals as goal
 

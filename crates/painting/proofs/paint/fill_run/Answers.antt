@@ -1,5 +1,4 @@
 use Rattle.sequences.specs.Fill.{begin, again, finish}
-use Prim.Native.Nat.{◌-◌}
 use Rattle.painting.proofs.paint.fill_run.Goals as goal
 
 pub loop-i-init : goal.loop-i-init

@@ -1,6 +1,5 @@
 use Rattle.squares.specs.Fours.{two_fit, two_filled}
 use Rattle.squares.specs.Filling.{rows-done_none, row_fits, rows-done-more, rows-done_all}
-use Prim.Native.Nat.{◌-◌}
 use native.Mathlib.Omega.{arith}
 use Rattle.painting.proofs.paint.fill_square.Goals as goal
 

@@ -2,7 +2,6 @@ use Rattle.quadtree.specs.Raster.{place}
 use Rattle.squares.specs.BlockByBlock.{painted_none, block_placed, block_fits, painted_more, painted_all, same_length as kept}
 use Rattle.painting.specs.FourBlocks.{four_room, painted_four}
 use mathlib.Core.Path.{◌≡◌}
-use Prim.Native.Nat.{◌-◌}
 use native.Mathlib.Omega.{arith}
 use lib.ListN.{get_or}
 use Rattle.painting.proofs.paint.paint.Goals as goal
