@@ -1,7 +1,6 @@
 -- `link` meets its contract. The loop's invariant: the places from j on are linked, and the head of each label is its first place from j on.
 -- The measure is j.
 use Rattle.links.specs.Linking.{Linking}
-use Prim.Native.Nat.{◌-◌}
 use Rattle.mapping.proofs.link.Given as goal
 
 abbrev pub invariant-loop-j : goal.invariant-loop-j
