@@ -1,7 +1,6 @@
 use Rattle.chains.specs.ChainForm.{digit_of}
 use Rattle.chains.specs.Bytes.{Allowed, allowed_says, digit-below}
 use Rattle.chains.specs.Following.{draw_begin, draws, draw_room, draw_on, draw_end}
-use Prim.Native.Nat.{◌-◌}
 use native.Mathlib.Omega.{arith}
 use lib.ListN.{get_or}
 use Rattle.chains.proofs.reading.write_corners.Goals as goal
