@@ -1,6 +1,6 @@
 -- Behind the others joins the front, if more is due, and else an unused place, which changes nothing.
 use mathlib.Core.Path.{◌≡◌, sym, ap, ap₂, ◌∙◌}
-use mathlib.Core.List.{List, ◌∷◌, ◌++◌}
+use mathlib.Core.List.{List, [], ◌∷◌, ◌++◌}
 use Prim.Native.Nat.{◌-◌, ◌+◌}
 use native.Mathlib.Omega.{arith}
 use lib.ListN.{length, take, drop, length-drop, length-append}
@@ -13,31 +13,33 @@ use Rattle.serving.proofs.after_serving.Goals as goal
 
 pub returns-then-due-le16 : goal.returns-then-due-le16
 returns-then-due-le16 c =
-    let behind-long : length (let a = c.args in take (a.size - 1) (drop 1 a.t1)) ≡ c.args.size - 1 =
-    length-take-le (c.args.size - 1) (drop 1 c.args.t1) (omega (arith, c.requires, c.well_formed.0, length-drop 1 c.args.t1)) in
-    let next_is : let a = c.args in c.with_last-next.result ≡ in_eight ((let a = c.args in take (a.size - 1) (drop 1 a.t1)) ++ back_of a.due (front a.t1) ∷ []) =
+    let behind-long : length (let a = c.args in take (a.size - 1) (drop 1 a.outlines)) ≡ c.args.size - 1 =
+    length-take-le (c.args.size - 1) (drop 1 c.args.outlines) (omega (arith, c.requires, c.well_formed.0, length-drop 1 c.args.outlines)) in
+    let next_is : let a = c.args in c.with_last-next.result ≡ in_eight ((let a = c.args in take (a.size - 1) (drop 1 a.outlines)) ++ back_of a.due (front a.outlines) ∷ []) =
     let moved = ap (take (c.args.size - 1)) c.moved_up.ensures
-    ∙ take-append-le (c.args.size - 1) (drop 1 c.args.t1) (unused ∷ []) (omega (arith, c.requires, c.well_formed.0, length-drop 1 c.args.t1)) in
+    ∙ take-append-le (c.args.size - 1) (drop 1 c.args.outlines) (unused ∷ []) (omega (arith, c.requires, c.well_formed.0, length-drop 1 c.args.outlines)) in
     c.with_last-next.ensures ∙ ap₂ (λ (l : List OpenOutline) (o : OpenOutline). in_eight (l ++ o ∷ [])) moved c.back.ensures in
-    let o : OpenOutline = front c.args.t1 in
-    let next = next_is ∙ ap (λ (x : OpenOutline). in_eight ((let a = c.args in take (a.size - 1) (drop 1 a.t1)) ++ x ∷ [])) (back_none c.args.due o c.if-due-le16.true) in (
-      holds_queue (let a = c.args in take (a.size - 1) (drop 1 a.t1)) (next ∙ unused-behind (let a = c.args in take (a.size - 1) (drop 1 a.t1)) (omega (arith, c.requires, behind-long))) (sym behind-long)
-          ∙ ap state_of (sym (closes c.args.due o (let a = c.args in take (a.size - 1) (drop 1 a.t1)) c.if-due-le16.true)),
-      omega (arith, c.well_formed.0),
-    )
+    let o : OpenOutline = front c.args.outlines in
+    let next = next_is ∙ ap (λ (x : OpenOutline). in_eight ((let a = c.args in take (a.size - 1) (drop 1 a.outlines)) ++ x ∷ [])) (back_none c.args.due o c.if-due-le16.true) in
+    record {
+      next = holds_queue (let a = c.args in take (a.size - 1) (drop 1 a.outlines)) (next ∙ unused-behind (let a = c.args in take (a.size - 1) (drop 1 a.outlines)) (omega (arith, c.requires, behind-long))) (sym behind-long)
+          ∙ ap state_of (sym (closes c.args.due o (let a = c.args in take (a.size - 1) (drop 1 a.outlines)) c.if-due-le16.true));
+      eight = omega (arith, c.well_formed.0);
+    }
 
 pub returns : goal.returns
 returns c =
-    let behind-long : length (let a = c.args in take (a.size - 1) (drop 1 a.t1)) ≡ c.args.size - 1 =
-    length-take-le (c.args.size - 1) (drop 1 c.args.t1) (omega (arith, c.requires, c.well_formed.0, length-drop 1 c.args.t1)) in
-    let next_is : let a = c.args in c.with_last-next.result ≡ in_eight ((let a = c.args in take (a.size - 1) (drop 1 a.t1)) ++ back_of a.due (front a.t1) ∷ []) =
+    let behind-long : length (let a = c.args in take (a.size - 1) (drop 1 a.outlines)) ≡ c.args.size - 1 =
+    length-take-le (c.args.size - 1) (drop 1 c.args.outlines) (omega (arith, c.requires, c.well_formed.0, length-drop 1 c.args.outlines)) in
+    let next_is : let a = c.args in c.with_last-next.result ≡ in_eight ((let a = c.args in take (a.size - 1) (drop 1 a.outlines)) ++ back_of a.due (front a.outlines) ∷ []) =
     let moved = ap (take (c.args.size - 1)) c.moved_up.ensures
-    ∙ take-append-le (c.args.size - 1) (drop 1 c.args.t1) (unused ∷ []) (omega (arith, c.requires, c.well_formed.0, length-drop 1 c.args.t1)) in
+    ∙ take-append-le (c.args.size - 1) (drop 1 c.args.outlines) (unused ∷ []) (omega (arith, c.requires, c.well_formed.0, length-drop 1 c.args.outlines)) in
     c.with_last-next.ensures ∙ ap₂ (λ (l : List OpenOutline) (o : OpenOutline). in_eight (l ++ o ∷ [])) moved c.back.ensures in
-    let o : OpenOutline = front c.args.t1 in
+    let o : OpenOutline = front c.args.outlines in
     let back : OpenOutline = record { cycle = o.cycle; handed = o.handed + 16 } in
-    let next = next_is ∙ ap (λ (x : OpenOutline). in_eight ((let a = c.args in take (a.size - 1) (drop 1 a.t1)) ++ x ∷ [])) (back_more c.args.due o c.if-due-le16.false) in (
-      holds_queue ((let a = c.args in take (a.size - 1) (drop 1 a.t1)) ++ back ∷ []) next (omega (arith, c.requires, behind-long, length-append (let a = c.args in take (a.size - 1) (drop 1 a.t1)) (back ∷ [])))
-          ∙ ap state_of (sym (to_the_back c.args.due o (let a = c.args in take (a.size - 1) (drop 1 a.t1)) c.if-due-le16.false)),
-      omega (arith, c.well_formed.0),
-    )
+    let next = next_is ∙ ap (λ (x : OpenOutline). in_eight ((let a = c.args in take (a.size - 1) (drop 1 a.outlines)) ++ x ∷ [])) (back_more c.args.due o c.if-due-le16.false) in
+    record {
+      next = holds_queue ((let a = c.args in take (a.size - 1) (drop 1 a.outlines)) ++ back ∷ []) next (omega (arith, c.requires, behind-long, length-append (let a = c.args in take (a.size - 1) (drop 1 a.outlines)) (back ∷ [])))
+          ∙ ap state_of (sym (to_the_back c.args.due o (let a = c.args in take (a.size - 1) (drop 1 a.outlines)) c.if-due-le16.false));
+      eight = omega (arith, c.well_formed.0);
+    }

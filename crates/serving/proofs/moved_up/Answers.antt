@@ -4,4 +4,4 @@ use Rattle.serving.specs.Places.{seven_moved_up}
 use Rattle.serving.proofs.moved_up.Goals as goal
 
 pub returns : goal.returns
-returns c = seven_moved_up c.args.t1 (omega (arith, c.well_formed.0))
+returns c = seven_moved_up c.args.outlines (omega (arith, c.well_formed.0))

@@ -1,6 +1,6 @@
 -- Each test is the definition's, in its order; the queue is what stands in the first places.
 use mathlib.Core.Path.{◌≡◌, sym, ap, ◌∙◌}
-use mathlib.Core.List.{List, ◌∷◌, ◌++◌}
+use mathlib.Core.List.{List, [], ◌∷◌, ◌++◌}
 use Prim.Native.Nat.{min}
 use native.Mathlib.Omega.{arith}
 use lib.ListN.{length, take, length-take, length-append}
@@ -18,7 +18,7 @@ unfolding queue_of
 returns-then-is_open c =
     let looked : let a = c.args in is_open a.cycle (queue_of a.state) ≡ c.is_open.result =
     let a = c.args in
-    ap (λ j. is_open a.cycle (take j a.state.outlines)) (sym c.open_count-size.ensures) ∙ sym c.is_open.ensures.0 in
+    ap (λ j. is_open a.cycle (take j a.state.outlines)) (sym c.open_count-size.ensures) ∙ sym c.is_open.ensures.found in
     let a = c.args in
     refuses a.state a.cycle a.count 22
     (already_open (queue_of a.state) a.cycle a.count c.if-count-cycle.false (looked ∙ c.if-is_open.true))
@@ -28,10 +28,10 @@ unfolding queue_of
 returns-then-size-ge8 c =
     let looked : let a = c.args in is_open a.cycle (queue_of a.state) ≡ c.is_open.result =
     let a = c.args in
-    ap (λ j. is_open a.cycle (take j a.state.outlines)) (sym c.open_count-size.ensures) ∙ sym c.is_open.ensures.0 in
+    ap (λ j. is_open a.cycle (take j a.state.outlines)) (sym c.open_count-size.ensures) ∙ sym c.is_open.ensures.found in
     let sized : length (queue_of c.args.state) ≡ c.open_count-size.result =
     let a = c.args in
-    omega (arith, c.open_count-size.ensures, c.is_open.ensures.1, length-take (min 8 a.state.length) a.state.outlines) in
+    omega (arith, c.open_count-size.ensures, c.is_open.ensures.eight, length-take (min 8 a.state.length) a.state.outlines) in
     let a = c.args in
     refuses a.state a.cycle a.count 23
     (eight_open (queue_of a.state) a.cycle a.count c.if-count-cycle.false (looked ∙ c.if-is_open.false)
@@ -42,10 +42,10 @@ unfolding queue_of joined
 returns c =
     let looked : let a = c.args in is_open a.cycle (queue_of a.state) ≡ c.is_open.result =
     let a = c.args in
-    ap (λ j. is_open a.cycle (take j a.state.outlines)) (sym c.open_count-size.ensures) ∙ sym c.is_open.ensures.0 in
+    ap (λ j. is_open a.cycle (take j a.state.outlines)) (sym c.open_count-size.ensures) ∙ sym c.is_open.ensures.found in
     let sized : length (queue_of c.args.state) ≡ c.open_count-size.result =
     let a = c.args in
-    omega (arith, c.open_count-size.ensures, c.is_open.ensures.1, length-take (min 8 a.state.length) a.state.outlines) in
+    omega (arith, c.open_count-size.ensures, c.is_open.ensures.eight, length-take (min 8 a.state.length) a.state.outlines) in
     let a = c.args in
     let q : List OpenOutline = queue_of a.state in
     let new : OpenOutline = record { cycle = a.cycle; handed = 0 } in

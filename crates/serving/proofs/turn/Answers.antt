@@ -22,12 +22,12 @@ returns-then-size-eq0 c =
 
 pub after_serving-requires : goal.after_serving-requires
 after_serving-requires c =
-    let due-is : let a = c.args in c.still_due-due.result ≡ length (stretch_of a.corners.now a.ends.now a.count (front a.state.outlines).cycle-stretch) - (front a.state.outlines).handed =
+    let due-is : let a = c.args in c.still_due-due.result ≡ length (stretch_of a.corners.now a.ends.now a.count (front a.state.outlines).cycle) - (front a.state.outlines).handed =
     let a = c.args in
     c.still_due-due.ensures ∙ ap (λ (l : List ℕ). length l - (front a.state.outlines).handed) c.cycle-stretch.ensures.corners_are in
-    let short : let a = c.args in length (stretch_of a.corners.now a.ends.now a.count (front a.state.outlines).cycle-stretch) < 4294967296 =
+    let short : let a = c.args in length (stretch_of a.corners.now a.ends.now a.count (front a.state.outlines).cycle) < 4294967296 =
     let a = c.args in
-    let k : ℕ = (front a.state.outlines).cycle-stretch in
+    let k : ℕ = (front a.state.outlines).cycle in
     stretch_short a.corners.now a.ends.now a.count k (omega (arith, c.shared_slice_known-2-1.given k)) in
     let a = c.args in
     (search rules, search rules, λ more. omega (arith, more, due-is, short))
@@ -35,7 +35,7 @@ after_serving-requires c =
 pub returns : goal.returns
 unfolding queue_of due_of corners_handed_out stretch_in
 returns c =
-    let due-is : let a = c.args in c.still_due-due.result ≡ length (stretch_of a.corners.now a.ends.now a.count (front a.state.outlines).cycle-stretch) - (front a.state.outlines).handed =
+    let due-is : let a = c.args in c.still_due-due.result ≡ length (stretch_of a.corners.now a.ends.now a.count (front a.state.outlines).cycle) - (front a.state.outlines).handed =
     let a = c.args in
     c.still_due-due.ensures ∙ ap (λ (l : List ℕ). length l - (front a.state.outlines).handed) c.cycle-stretch.ensures.corners_are in
     let a = c.args in
@@ -46,9 +46,9 @@ returns c =
     let some : 0 < c.open_count-size.result = omega (arith, c.if-size-eq0.false) in
     let open_now : queue_of a.state ≡ o ∷ behind =
     ap (λ j. take j a.state.outlines) (sym c.open_count-size.ensures)
-    ∙ front-first a.state.outlines c.open_count-size.result some (omega (arith, c.after_serving.ensures.1)) in
+    ∙ front-first a.state.outlines c.open_count-size.result some (omega (arith, c.after_serving.ensures.eight)) in
     front_is_served a.state l open_now
     (c.sixteen_at_most-given.ensures ∙ ap (min 16) due)
     (c.hand_out.ensures
     ∙ ap (λ (s : List ℕ). in_sixteen (take 16 (drop o.handed s))) c.cycle-stretch.ensures.corners_are)
-    (c.after_serving.ensures.0 ∙ ap (λ (n : ℕ). state_of (after_serving n o behind)) due)
+    (c.after_serving.ensures.next ∙ ap (λ (n : ℕ). state_of (after_serving n o behind)) due)

@@ -5,7 +5,7 @@ use Rattle.serving.proofs.with_last.Goals as goal
 
 pub returns : goal.returns
 returns c =
-    eight_seats c.args.t1 c.args.last c.args.count (omega (arith, c.well_formed.0)) c.requires
+    eight_seats c.args.outlines c.args.last c.args.count (omega (arith, c.well_formed.0)) c.requires
     c.seat.ensures
     c.seat-2.ensures
     c.seat-3.ensures
