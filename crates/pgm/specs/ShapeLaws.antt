@@ -11,7 +11,7 @@ use Rattle.sequences.specs.Powers.{pow4_mono, square_of_side}
 use Rattle.headers.specs.Header.{Fields}
 use Rattle.pgm.specs.Exponent.{exponent, side_number, side_n, exponent_power, exponent_of_power}
 use Rattle.pgm.specs.Samples.{is_wide, sample_bytes, neither}
-use Rattle.pgm.specs.Picture.{square, outside, filled, samples}
+use Rattle.pgm.specs.Picture.{square, outside, filled}
 use Rattle.pgm.specs.Shaped.{demand_shape, shaped, shape_number, shape_n, shape_count, shape_wide, is_passed}
 use Rattle.pgm.specs.declared.shape.PowerOfTwo.{PowerOfTwo}
 use Rattle.pgm.specs.declared.shape.Shape.{Shape}

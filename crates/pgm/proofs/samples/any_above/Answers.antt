@@ -1,5 +1,4 @@
 use mathlib.Core.Path.{◌∙◌}
-use Prim.Native.Nat.{◌-◌}
 use native.Mathlib.Omega.{arith}
 use Rattle.pgm.proofs.Sampling.{room-of-each, looked-at-greatest, looked-none, looked-more, looked-all}
 use Rattle.pgm.proofs.samples.any_above.Goals as goal

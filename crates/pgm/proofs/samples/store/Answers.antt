@@ -1,4 +1,3 @@
-use Prim.Native.Nat.{◌-◌}
 use native.Mathlib.Omega.{arith}
 use Rattle.pgm.proofs.Sampling.{room-of-each, stored_none, stored_more, stored-all}
 use Rattle.pgm.proofs.samples.store.Goals as goal

@@ -1,5 +1,4 @@
 use Rattle.pgm.proofs.Search.{begin, found, again, none, fits}
-use Prim.Native.Nat.{◌-◌}
 use native.Mathlib.Omega.{arith}
 use Rattle.pgm.proofs.shape.exponent.Goals as goal
 

@@ -6,6 +6,7 @@ use Prim.Native.Nat.{ℕ, ◌≤◌, ◌*◌}
 use native.Mathlib.Nat.{mul-le-mul}
 use native.Mathlib.Omega.{arith}
 use lib.Dec.{eqb}
+use borrow.Author.Tests.{eq-eqb, ne_eqb}
 use Rattle.pgm.specs.Exponent.{exponent, width_small}
 use Rattle.pgm.specs.Samples.{is_wide}
 use Rattle.pgm.specs.Picture.{outside}
@@ -55,11 +56,11 @@ unfolding outside is_wide
 returns-then-unfilled c =
     let equal : let a = c.args in a.width ≡ a.height = c.if-width-height.false in
     let power : exponent c.args.width ≡ PowerOfTwo.Power c.in-Power.n = sym c.exponent.ensures ∙ c.in-Power.is in
-    size_wrong _ _ equal power c.if-outside.false (ap (λ (k : ℕ). not (eqb c.args.length k)) (sym c.bytes_of.ensures) ∙ c.if-unfilled.true)
+    size_wrong _ _ equal power c.if-outside.false (ap (λ (k : ℕ). not (eqb c.args.length k)) (sym c.bytes_of.ensures) ∙ ap not (ne_eqb _ _ c.if-unfilled.true))
 
 pub returns : goal.returns
 unfolding outside is_wide
 returns c =
     let equal : let a = c.args in a.width ≡ a.height = c.if-width-height.false in
     let power : exponent c.args.width ≡ PowerOfTwo.Power c.in-Power.n = sym c.exponent.ensures ∙ c.in-Power.is in
-    size_right _ _ equal power c.if-outside.false (ap (λ (k : ℕ). not (eqb c.args.length k)) (sym c.bytes_of.ensures) ∙ c.if-unfilled.false)
+    size_right _ _ equal power c.if-outside.false (ap (λ (k : ℕ). not (eqb c.args.length k)) (sym c.bytes_of.ensures) ∙ ap not (eq-eqb _ _ c.if-unfilled.false))
