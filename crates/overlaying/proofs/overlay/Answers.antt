@@ -15,13 +15,13 @@ returns-then-first-ne0 c = first_refused _ _ _ _ c.check-first.ensures c.if-firs
 
 pub returns-then-second-ne0 : goal.returns-then-second-ne0
 returns-then-second-ne0 c =
-    let first_accepted : let a = c.args in number_of a.n (list_of a.first-codes.now a.first-levels.now a.first-colours.now) ≡ 0 = sym c.check-first.ensures ∙ c.if-first-ne0.false in
+    let first_accepted : let a = c.args in number_of a.n (list_of a.first_codes.now a.first_levels.now a.first_colours.now) ≡ 0 = sym c.check-first.ensures ∙ c.if-first-ne0.false in
     second_refused _ _ _ _ first_accepted c.check-second.ensures c.if-second-ne0.true
 
 pub returns-then-room-whole : goal.returns-then-room-whole
 returns-then-room-whole c =
-    let first_accepted : let a = c.args in number_of a.n (list_of a.first-codes.now a.first-levels.now a.first-colours.now) ≡ 0 = sym c.check-first.ensures ∙ c.if-first-ne0.false in
-    let second_accepted : let a = c.args in number_of a.n (list_of a.second-codes.now a.second-levels.now a.second-colours.now) ≡ 0 = sym c.check-second.ensures ∙ c.if-second-ne0.false in
+    let first_accepted : let a = c.args in number_of a.n (list_of a.first_codes.now a.first_levels.now a.first_colours.now) ≡ 0 = sym c.check-first.ensures ∙ c.if-first-ne0.false in
+    let second_accepted : let a = c.args in number_of a.n (list_of a.second_codes.now a.second_levels.now a.second_colours.now) ≡ 0 = sym c.check-second.ensures ∙ c.if-second-ne0.false in
     let small : c.args.n ≤ 8 = (number-zero _ _ _ _ first_accepted).small in
     let whole : c.pixels-whole.result ≡ 4 ^ c.args.n = c.pixels-whole.ensures ∙ pixels_are_power c.args.n (omega (arith, small)) in
     let room : let a = c.args in c.least-room.result ≡ min (length a.codes.now) (min (length a.levels.now) (length a.colours.now)) = c.least-room.ensures ∙ ap (min (length c.args.codes.now)) c.least.ensures in
@@ -29,8 +29,8 @@ returns-then-room-whole c =
 
 pub lay_over-count-requires : goal.lay_over-count-requires
 lay_over-count-requires c =
-    let first_accepted : let a = c.args in number_of a.n (list_of a.first-codes.now a.first-levels.now a.first-colours.now) ≡ 0 = sym c.check-first.ensures ∙ c.if-first-ne0.false in
-    let second_accepted : let a = c.args in number_of a.n (list_of a.second-codes.now a.second-levels.now a.second-colours.now) ≡ 0 = sym c.check-second.ensures ∙ c.if-second-ne0.false in
+    let first_accepted : let a = c.args in number_of a.n (list_of a.first_codes.now a.first_levels.now a.first_colours.now) ≡ 0 = sym c.check-first.ensures ∙ c.if-first-ne0.false in
+    let second_accepted : let a = c.args in number_of a.n (list_of a.second_codes.now a.second_levels.now a.second_colours.now) ≡ 0 = sym c.check-second.ensures ∙ c.if-second-ne0.false in
     let room : let a = c.args in c.least-room.result ≡ min (length a.codes.now) (min (length a.levels.now) (length a.colours.now)) = c.least-room.ensures ∙ ap (min (length c.args.codes.now)) c.least.ensures in
     let small : c.args.n ≤ 8 = (number-zero _ _ _ _ first_accepted).small in
     let whole : c.pixels-whole.result ≡ 4 ^ c.args.n = c.pixels-whole.ensures ∙ pixels_are_power c.args.n (omega (arith, small)) in
@@ -45,7 +45,7 @@ lay_over-count-requires c =
 
 pub overflow_cast-count : goal.overflow_cast-count
 overflow_cast-count c =
-    let first_accepted : let a = c.args in number_of a.n (list_of a.first-codes.now a.first-levels.now a.first-colours.now) ≡ 0 = sym c.check-first.ensures ∙ c.if-first-ne0.false in
+    let first_accepted : let a = c.args in number_of a.n (list_of a.first_codes.now a.first_levels.now a.first_colours.now) ≡ 0 = sym c.check-first.ensures ∙ c.if-first-ne0.false in
     let small : c.args.n ≤ 8 = (number-zero _ _ _ _ first_accepted).small in
     omega (arith, c.lay_over-count.ensures.few, pow4_mono small)
 
@@ -60,8 +60,8 @@ shape_of-colours c = c.lay_over-count.ensures.same.for_colours
 
 pub returns : goal.returns
 returns c =
-    let first_accepted : let a = c.args in number_of a.n (list_of a.first-codes.now a.first-levels.now a.first-colours.now) ≡ 0 = sym c.check-first.ensures ∙ c.if-first-ne0.false in
-    let second_accepted : let a = c.args in number_of a.n (list_of a.second-codes.now a.second-levels.now a.second-colours.now) ≡ 0 = sym c.check-second.ensures ∙ c.if-second-ne0.false in
+    let first_accepted : let a = c.args in number_of a.n (list_of a.first_codes.now a.first_levels.now a.first_colours.now) ≡ 0 = sym c.check-first.ensures ∙ c.if-first-ne0.false in
+    let second_accepted : let a = c.args in number_of a.n (list_of a.second_codes.now a.second_levels.now a.second_colours.now) ≡ 0 = sym c.check-second.ensures ∙ c.if-second-ne0.false in
     let small : c.args.n ≤ 8 = (number-zero _ _ _ _ first_accepted).small in
     let whole : c.pixels-whole.result ≡ 4 ^ c.args.n = c.pixels-whole.ensures ∙ pixels_are_power c.args.n (omega (arith, small)) in
     let room : let a = c.args in c.least-room.result ≡ min (length a.codes.now) (min (length a.levels.now) (length a.colours.now)) = c.least-room.ensures ∙ ap (min (length c.args.codes.now)) c.least.ensures in

@@ -12,4 +12,4 @@ pub number_all-requires : goal.number_all-requires
 number_all-requires c = (c.walk.ensures.low, few_parents c.requires c.walk.ensures)
 
 pub returns : goal.returns
-returns c = labelled c.requires c.walk.ensures c.number_all.ensures.0 c.number_all.ensures.1 c.fill.ensures
+returns c = labelled c.requires c.walk.ensures c.number_all.ensures.value c.number_all.ensures.labels_after c.fill.ensures

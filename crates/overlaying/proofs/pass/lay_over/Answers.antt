@@ -11,56 +11,56 @@ loop-i-init c = passing_none c.requires
 
 pub bounds-first_levels-i : goal.bounds-first_levels-i
 bounds-first_levels-i c =
-    let first : let a = c.args in let l = c.loop-i in BlockThere a.n (list_of a.first-codes.now a.first-levels.now a.first-colours.now) l.i = first_there c.requires c.loop-i.invariant c.loop-i-test.true in
+    let first : let a = c.args in let l = c.loop-i in BlockThere a.n (list_of a.first_codes.now a.first_levels.now a.first_colours.now) l.i = first_there c.requires c.loop-i.invariant c.loop-i-test.true in
     first.in_levels
 
 pub end_of-ending-requires : goal.end_of-ending-requires
 end_of-ending-requires c =
-    let first : let a = c.args in let l = c.loop-i in BlockThere a.n (list_of a.first-codes.now a.first-levels.now a.first-colours.now) l.i = first_there c.requires c.loop-i.invariant c.loop-i-test.true in
+    let first : let a = c.args in let l = c.loop-i in BlockThere a.n (list_of a.first_codes.now a.first_levels.now a.first_colours.now) l.i = first_there c.requires c.loop-i.invariant c.loop-i-test.true in
     let a = first in (a.small, a.low)
 
 pub offset_bounds-second_codes-j : goal.offset_bounds-second_codes-j
 offset_bounds-second_codes-j c =
-    let second-codes : c.loop-i.j < length c.args.second-codes.now = in_second c.requires c.loop-i.invariant c.loop-i-test.true in
+    let second-codes : c.loop-i.j < length c.args.second_codes.now = in_second c.requires c.loop-i.invariant c.loop-i-test.true in
     omega (arith, second-codes, c.well_formed)
 
 pub bounds-second_codes-j : goal.bounds-second_codes-j
 bounds-second_codes-j c =
-    let second-codes : c.loop-i.j < length c.args.second-codes.now = in_second c.requires c.loop-i.invariant c.loop-i-test.true in
+    let second-codes : c.loop-i.j < length c.args.second_codes.now = in_second c.requires c.loop-i.invariant c.loop-i-test.true in
     second-codes
 
 pub bounds-second_levels-j : goal.bounds-second_levels-j
 bounds-second_levels-j c =
-    let second : let a = c.args in let l = c.loop-i in BlockThere a.n (list_of a.second-codes.now a.second-levels.now a.second-colours.now) l.j = second_there c.requires c.loop-i.invariant c.loop-i-test.true in
+    let second : let a = c.args in let l = c.loop-i in BlockThere a.n (list_of a.second_codes.now a.second_levels.now a.second_colours.now) l.j = second_there c.requires c.loop-i.invariant c.loop-i-test.true in
     second.in_levels
 
 pub end_of-other-requires : goal.end_of-other-requires
 end_of-other-requires c =
-    let second : let a = c.args in let l = c.loop-i in BlockThere a.n (list_of a.second-codes.now a.second-levels.now a.second-colours.now) l.j = second_there c.requires c.loop-i.invariant c.loop-i-test.true in
+    let second : let a = c.args in let l = c.loop-i in BlockThere a.n (list_of a.second_codes.now a.second_levels.now a.second_colours.now) l.j = second_there c.requires c.loop-i.invariant c.loop-i-test.true in
     let b = second in (b.small, b.low)
 
 pub offset_bounds-first_colours-i : goal.offset_bounds-first_colours-i
 offset_bounds-first_colours-i c =
-    let first : let a = c.args in let l = c.loop-i in BlockThere a.n (list_of a.first-codes.now a.first-levels.now a.first-colours.now) l.i = first_there c.requires c.loop-i.invariant c.loop-i-test.true in
-    let second : let a = c.args in let l = c.loop-i in BlockThere a.n (list_of a.second-codes.now a.second-levels.now a.second-colours.now) l.j = second_there c.requires c.loop-i.invariant c.loop-i-test.true in
+    let first : let a = c.args in let l = c.loop-i in BlockThere a.n (list_of a.first_codes.now a.first_levels.now a.first_colours.now) l.i = first_there c.requires c.loop-i.invariant c.loop-i-test.true in
+    let second : let a = c.args in let l = c.loop-i in BlockThere a.n (list_of a.second_codes.now a.second_levels.now a.second_colours.now) l.j = second_there c.requires c.loop-i.invariant c.loop-i-test.true in
     omega (arith, first, second, c.well_formed)
 
 pub bounds-first_colours-i : goal.bounds-first_colours-i
 bounds-first_colours-i c =
-    let first : let a = c.args in let l = c.loop-i in BlockThere a.n (list_of a.first-codes.now a.first-levels.now a.first-colours.now) l.i = first_there c.requires c.loop-i.invariant c.loop-i-test.true in
-    let second : let a = c.args in let l = c.loop-i in BlockThere a.n (list_of a.second-codes.now a.second-levels.now a.second-colours.now) l.j = second_there c.requires c.loop-i.invariant c.loop-i-test.true in
+    let first : let a = c.args in let l = c.loop-i in BlockThere a.n (list_of a.first_codes.now a.first_levels.now a.first_colours.now) l.i = first_there c.requires c.loop-i.invariant c.loop-i-test.true in
+    let second : let a = c.args in let l = c.loop-i in BlockThere a.n (list_of a.second_codes.now a.second_levels.now a.second_colours.now) l.j = second_there c.requires c.loop-i.invariant c.loop-i-test.true in
     omega (arith, first, second)
 
 pub offset_bounds-second_colours-j : goal.offset_bounds-second_colours-j
 offset_bounds-second_colours-j c =
-    let first : let a = c.args in let l = c.loop-i in BlockThere a.n (list_of a.first-codes.now a.first-levels.now a.first-colours.now) l.i = first_there c.requires c.loop-i.invariant c.loop-i-test.true in
-    let second : let a = c.args in let l = c.loop-i in BlockThere a.n (list_of a.second-codes.now a.second-levels.now a.second-colours.now) l.j = second_there c.requires c.loop-i.invariant c.loop-i-test.true in
+    let first : let a = c.args in let l = c.loop-i in BlockThere a.n (list_of a.first_codes.now a.first_levels.now a.first_colours.now) l.i = first_there c.requires c.loop-i.invariant c.loop-i-test.true in
+    let second : let a = c.args in let l = c.loop-i in BlockThere a.n (list_of a.second_codes.now a.second_levels.now a.second_colours.now) l.j = second_there c.requires c.loop-i.invariant c.loop-i-test.true in
     omega (arith, first, second, c.well_formed)
 
 pub bounds-second_colours-j : goal.bounds-second_colours-j
 bounds-second_colours-j c =
-    let first : let a = c.args in let l = c.loop-i in BlockThere a.n (list_of a.first-codes.now a.first-levels.now a.first-colours.now) l.i = first_there c.requires c.loop-i.invariant c.loop-i-test.true in
-    let second : let a = c.args in let l = c.loop-i in BlockThere a.n (list_of a.second-codes.now a.second-levels.now a.second-colours.now) l.j = second_there c.requires c.loop-i.invariant c.loop-i-test.true in
+    let first : let a = c.args in let l = c.loop-i in BlockThere a.n (list_of a.first_codes.now a.first_levels.now a.first_colours.now) l.i = first_there c.requires c.loop-i.invariant c.loop-i-test.true in
+    let second : let a = c.args in let l = c.loop-i in BlockThere a.n (list_of a.second_codes.now a.second_levels.now a.second_colours.now) l.j = second_there c.requires c.loop-i.invariant c.loop-i-test.true in
     omega (arith, first, second)
 
 pub overflow_sub-size : goal.overflow_sub-size
@@ -81,7 +81,7 @@ next_place-i-requires c = omega (arith, c.loop-i-test.true, c.good)
 
 pub next_place-j-requires : goal.next_place-j-requires
 next_place-j-requires c =
-    let second-codes : c.loop-i.j < length c.args.second-codes.now = in_second c.requires c.loop-i.invariant c.loop-i-test.true in
+    let second-codes : c.loop-i.j < length c.args.second_codes.now = in_second c.requires c.loop-i.invariant c.loop-i-test.true in
     omega (arith, second-codes, c.good)
 
 pub loop-i-smaller : goal.loop-i-smaller

@@ -7,7 +7,7 @@ use Rattle.overlaying.proofs.pass.lay_over.Given as goal
 
 abbrev pub invariant-loop-i : goal.invariant-loop-i
 invariant-loop-i l =
-    Passing l.n (list_of l.first-codes l.first-levels l.first-colours) (list_of l.second-codes l.second-levels l.second-colours) (list_of l.initial.codes l.initial.levels l.initial.colours) (list_of l.codes l.levels l.colours) l.pending l.i l.j
+    Passing l.n (list_of l.first_codes l.first_levels l.first_colours) (list_of l.second_codes l.second_levels l.second_colours) (list_of l.initial.codes l.initial.levels l.initial.colours) (list_of l.codes l.levels l.colours) l.pending l.i l.j
 
 abbrev pub decreases-loop-i : goal.decreases-loop-i
 decreases-loop-i l =
