@@ -13,7 +13,7 @@ use Rattle.links.specs.FirstCycles.{first_cycles, starts_few, length-first-owner
 use Rattle.cycles.specs.Mapped.{nums_of, Mapped, Marked}
 use Rattle.cycles.specs.Promise.{cycle_marked}
 use Rattle.starts.specs.declared.Counts.{Counts}
-use Rattle.std.specs.Borrow.{Bor}
+use Rattle.std.specs.Borrow.{Bor, MutBor}
 use denote.Triple.Both.{Both}
 
 -- What is lent and counted while cycles are listed: the work list with the map in front, the owner, end, corner and area lists, and how
@@ -39,11 +39,15 @@ none_counted = record { cycles = 0; corners = 0 }
 abbrev pub LentList : Type 0 → Type 0
 LentList A = Both (Bor (List A)) (Bor (List A))
 
+-- The same of a list that it was lent to change.
+abbrev pub LentToChange : Type 0 → Type 0
+LentToChange A = Both (MutBor (List A)) (MutBor (List A))
+
 -- The lists of a state as a function found them, with the counts that it was given; and as it leaves them, with those that it returns.
-abbrev pub entry_state : LentList ℕ → LentList ℕ → LentList ℕ → LentList ℕ → LentList ℤ → Counts → State
+abbrev pub entry_state : LentToChange ℕ → LentToChange ℕ → LentToChange ℕ → LentToChange ℕ → LentToChange ℤ → Counts → State
 entry_state work owned ended points sums k = state work.entry.now owned.entry.now ended.entry.now points.entry.now sums.entry.now k
 
-abbrev pub exit_state : LentList ℕ → LentList ℕ → LentList ℕ → LentList ℕ → LentList ℤ → Counts → State
+abbrev pub exit_state : LentToChange ℕ → LentToChange ℕ → LentToChange ℕ → LentToChange ℕ → LentToChange ℤ → Counts → State
 exit_state work owned ended points sums k = state work.exit.now owned.exit.now ended.exit.now points.exit.now sums.exit.now k
 
 -- "Owner and end lists, 4^n each. Corners, 4 times 4^n" (document 01, "When the answer is a number"); "the area list needs 4^n entries"

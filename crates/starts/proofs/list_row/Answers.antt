@@ -1,6 +1,5 @@
 use Rattle.starts.specs.Progress.{same_owners, same_ends, same_corners, same_areas}
 use Rattle.starts.specs.Rows.{end_small, begin, pixel_next, again, finish}
-use Prim.Native.Nat.{◌-◌}
 use native.Mathlib.Omega.{arith}
 use Rattle.starts.proofs.list_row.Goals as goal
 
