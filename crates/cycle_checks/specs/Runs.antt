@@ -48,15 +48,15 @@ pub record RunEdges (m : ℕ → ℕ → ℕ) (s e e' : ℕ) : Type 0 where
   pub rising : digit e ≡ 0 → (a : ℕ) → In a run → code_right 8 e ≤ code_right 8 a
 
 module _ {side r s : ℕ} {map₀ : List ℕ} (first : FirstEdge side r s map₀) where
-  pub run-edges : {e e' : ℕ} {map map' : List ℕ} → Straight 0 side r (map_at side map₀) map' e' map e → Before 0 side r s map₀ map e → RunEdges (map_at side map₀) s e e'
-  run-edges {e} {e'} (turning hm here n) g = record {
+  pub run-edges : {e' : ℕ} {map' : List ℕ} {e : ℕ} {map : List ℕ} → Straight 0 side r (map_at side map₀) map' e' map e → Before 0 side r s map₀ map e → RunEdges (map_at side map₀) s e e'
+  run-edges {e'} {e = e} (turning hm here n) g = record {
     run = e ∷ [];
     joined = ap (λ (a : ℕ). e ∷ rest (map_at side map₀) s a) here;
     no_corner = ap (λ (a : ℕ). turns (digit e) (rest (map_at side map₀) s a)) (sym here);
     one_way = λ a i. ap digit (in_single a e i);
     rising = λ z a i. subst (λ (b : ℕ). code_right 8 e ≤ code_right 8 b) (sym (in_single a e i)) (le_refl (code_right 8 e));
   }
-  run-edges {e} {e'} {map} {map'} (straight_on straight more) g =
+  run-edges {e'} {map'} {e} {map} (straight_on straight more) g =
       let m : ℕ → ℕ → ℕ = map_at side map₀ in
       let p : After 0 side r s map₀ (mark 0 side r map e) (step m e) = past first.square g refl refl in
       let o : step m e ≢ s = not_first first e g.on_region straight in

@@ -1,7 +1,8 @@
 -- A cycle from its start has a first corner in the image, a region that the map can hold, an edge there with which a walk may begin, and
 -- matches; and what passes these tests is one.
 use native.Mathlib.Omega.{arith}
-use Rattle.sequences.specs.Says.{granted}
+use Rattle.std.specs.Prelude.{not}
+use Rattle.std.proofs.Math.Path.{ap}
 use Rattle.cycle_checks.specs.Checked.{no_corner, south_of_image, no_region, square-here, no_walk, walked}
 use Rattle.cycle_checks.proofs.cycle_agrees.Goals as goal
 
@@ -21,10 +22,10 @@ pub begins-requires : goal.begins-requires
 begins-requires c = (square-here c.requires c.args.owner c.args.points.now c.side-side.ensures, omega arith, omega arith, omega (arith, c.if-p.false))
 
 pub returns-then-not-begins : goal.returns-then-not-begins
-returns-then-not-begins c = no_walk c.requires c.args.owner c.args.points.now c.side-side.ensures c.begins.ensures c.if-not-begins.true
+returns-then-not-begins c = no_walk c.requires c.args.owner c.args.points.now c.side-side.ensures c.begins.ensures (ap not c.if-not-begins.true)
 
 pub walk-requires : goal.walk-requires
-walk-requires c = (granted c.begins.ensures c.if-not-begins.false, omega arith, c.requires.spread)
+walk-requires c = (c.begins.ensures.0 c.if-not-begins.false, omega arith, c.requires.spread)
 
 pub returns : goal.returns
-returns c = walked c.requires c.args.owner c.args.points.now c.side-side.ensures (granted c.begins.ensures c.if-not-begins.false) c.walk.ensures
+returns c = walked c.requires c.args.owner c.args.points.now c.side-side.ensures (c.begins.ensures.0 c.if-not-begins.false) c.walk.ensures

@@ -28,28 +28,28 @@ next_digit-next-requires c =
 
 pub shape_of-map-then-next-d : goal.shape_of-map-then-next-d
 shape_of-map-then-next-d c =
-    let turn-done : let l = c.loop-side in let a = c.args in OneFurther 0 a.side a.r a.map.now a.column a.row c.mark_east.last.0 l.x l.y a.d c.next_x-x.result c.next_y-y.result c.next_digit-next.result =
+    let turn-done : let l = c.loop-side in let a = c.args in OneFurther 0 a.side a.r a.map.now a.column a.row c.mark_east.new.map l.x l.y a.d c.next_x-x.result c.next_y-y.result c.next_digit-next.result =
     one_further c.loop-side.invariant c.mark_east.ensures c.next_x-x.ensures c.next_y-y.ensures
     c.next_digit-next.ensures in
     turn-done.long
 
 pub returns-then-next-d : goal.returns-then-next-d
 returns-then-next-d c =
-    let turn-done : let l = c.loop-side in let a = c.args in OneFurther 0 a.side a.r a.map.now a.column a.row c.mark_east.last.0 l.x l.y a.d c.next_x-x.result c.next_y-y.result c.next_digit-next.result =
+    let turn-done : let l = c.loop-side in let a = c.args in OneFurther 0 a.side a.r a.map.now a.column a.row c.mark_east.new.map l.x l.y a.d c.next_x-x.result c.next_y-y.result c.next_digit-next.result =
     one_further c.loop-side.invariant c.mark_east.ensures c.next_x-x.ensures c.next_y-y.ensures
     c.next_digit-next.ensures in
     turn-done.ends c.if-next-d.true
 
 pub loop-side-smaller : goal.loop-side-smaller
 loop-side-smaller c =
-    let turn-done : let l = c.loop-side in let a = c.args in OneFurther 0 a.side a.r a.map.now a.column a.row c.mark_east.last.0 l.x l.y a.d c.next_x-x.result c.next_y-y.result c.next_digit-next.result =
+    let turn-done : let l = c.loop-side in let a = c.args in OneFurther 0 a.side a.r a.map.now a.column a.row c.mark_east.new.map l.x l.y a.d c.next_x-x.result c.next_y-y.result c.next_digit-next.result =
     one_further c.loop-side.invariant c.mark_east.ensures c.next_x-x.ensures c.next_y-y.ensures
     c.next_digit-next.ensures in
     turn-done.nearer
 
 pub loop-side-preserved : goal.loop-side-preserved
 loop-side-preserved c =
-    let turn-done : let l = c.loop-side in let a = c.args in OneFurther 0 a.side a.r a.map.now a.column a.row c.mark_east.last.0 l.x l.y a.d c.next_x-x.result c.next_y-y.result c.next_digit-next.result =
+    let turn-done : let l = c.loop-side in let a = c.args in OneFurther 0 a.side a.r a.map.now a.column a.row c.mark_east.new.map l.x l.y a.d c.next_x-x.result c.next_y-y.result c.next_digit-next.result =
     one_further c.loop-side.invariant c.mark_east.ensures c.next_x-x.ensures c.next_y-y.ensures
     c.next_digit-next.ensures in
     turn-done.again c.if-next-d.false

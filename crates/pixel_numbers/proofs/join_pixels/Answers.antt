@@ -1,4 +1,4 @@
-use Prim.Native.Nat.{◌-◌, ◌^◌, ◌<◌}
+use Prim.Native.Nat.{◌^◌, ◌<◌}
 use native.Mathlib.Omega.{arith}
 use Rattle.pixel_numbers.specs.Parents.{whole_is, part_inside}
 use Rattle.pixel_numbers.specs.Pixels.{begin, pixel_next, again, finish}

@@ -46,13 +46,13 @@ number_all-count-requires c = roots_lent c.requires c.pixels-whole.ensures c.own
 
 pub returns-then-count-colours : goal.returns-then-count-colours
 returns-then-count-colours c =
-    count_differs c.requires c.pixels-whole.ensures c.own_parents.ensures c.join_pixels.ensures c.number_all-count.ensures.0
-    c.number_all-count.ensures.1 c.if-count-colours.true
+    count_differs c.requires c.pixels-whole.ensures c.own_parents.ensures c.join_pixels.ensures c.number_all-count.ensures.value
+    c.number_all-count.ensures.labels_after c.if-count-colours.true
 
 pub same_numbers-requires : goal.same_numbers-requires
-same_numbers-requires c = numbered c.requires c.pixels-whole.ensures c.own_parents.ensures c.join_pixels.ensures c.number_all-count.ensures.0 c.number_all-count.ensures.1
+same_numbers-requires c = numbered c.requires c.pixels-whole.ensures c.own_parents.ensures c.join_pixels.ensures c.number_all-count.ensures.value c.number_all-count.ensures.labels_after
 
 pub returns : goal.returns
 returns c =
-    count_agrees c.requires c.pixels-whole.ensures c.own_parents.ensures c.join_pixels.ensures c.number_all-count.ensures.0
-    c.number_all-count.ensures.1 c.if-count-colours.false c.same_numbers.ensures
+    count_agrees c.requires c.pixels-whole.ensures c.own_parents.ensures c.join_pixels.ensures c.number_all-count.ensures.value
+    c.number_all-count.ensures.labels_after c.if-count-colours.false c.same_numbers.ensures
