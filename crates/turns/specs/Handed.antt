@@ -193,14 +193,14 @@ after_turn {l} {s} {t} {answer} k p apart all open_now r through rest = pick (qu
   where
     pick : (q : List OpenOutline) → queue_of s ≡ q → is_open k q ≡ true → Apart q → AllDue l q
         → SoFar l k (handed_of k (queue_of s)) (turns_of k (answer ∷ answers_of r)) (queue_of t)
-    pick [] e is_open a d = absurd (true≢false (sym is_open))
-    pick (o ∷ q) e is_open (one_more n a) (one_due some d) = front_or_behind (ℕ_discrete o.cycle k)
+    pick [] e opened a d = absurd (true≢false (sym opened))
+    pick (o ∷ q) e opened (one_more n a) (one_due some d) = front_or_behind (ℕ_discrete o.cycle k)
       where
         -- it waits
         behind : o.cycle ≢ k → SoFar l k (handed_of k (queue_of s)) (turns_of k (answer ∷ answers_of r)) (queue_of t)
         behind other =
             let seen = of_others k o q other in
-            let still = unmoved k p e other (sym seen.1 ∙ is_open) in
+            let still = unmoved k p e other (sym seen.1 ∙ opened) in
             let same : handed_of k (queue_of answer.state) ≡ handed_of k (queue_of s) = still.0 ∙ sym seen.0 ∙ ap (handed_of k) (sym e) in
             subst (λ (its : List Turned). SoFar l k (handed_of k (queue_of s)) its (queue_of t)) (sym (not_its_turn k p e other (answers_of r)))
             (subst (λ (h : ℕ). SoFar l k h (turns_of k (answers_of r)) (queue_of t)) same (rest still.1))
