@@ -4,7 +4,7 @@ use Rattle.lines.specs.Writing.{end_room, put_plain, put_ended}
 use Rattle.lines.proofs.put_cycle.Goals as goal
 
 pub bounds-text-n : goal.bounds-text-n
-bounds-text-n c = omega (arith, end_room c.requires c.svg-written.ensures, c.svg-written.auto.1.0)
+bounds-text-n c = omega (arith, end_room c.requires c.svg-written.ensures, c.svg-written.auto.text)
 
 pub overflow_add-result : goal.overflow_add-result
 overflow_add-result c = omega (arith, end_room c.requires c.svg-written.ensures, c.well_formed)

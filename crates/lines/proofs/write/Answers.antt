@@ -1,5 +1,4 @@
 use Rattle.lines.specs.Writing.{begin, room_after, one_cycle, turn, put_short, finish}
-use Prim.Native.Nat.{◌-◌}
 use native.Mathlib.Omega.{arith}
 use Rattle.lines.proofs.write.Goals as goal
 
