@@ -31,7 +31,7 @@ returns-then-room-whole c =
     let accepted : let a = c.args in number_of a.n (list_of a.codes.now a.levels.now a.colours.now) ≡ 0 = sym c.check-number.ensures ∙ c.if-number-ne0.false in
     let small : c.args.n ≤ 8 = (number-zero _ _ _ _ accepted).small in
     let whole : c.pixels-whole.result ≡ 4 ^ c.args.n = c.pixels-whole.ensures ∙ pixels_are_power c.args.n (omega (arith, small)) in
-    let room : let a = c.args in c.least-room.result ≡ min (length a.new-codes.now) (min (length a.new-levels.now) (length a.new-colours.now)) = c.least-room.ensures ∙ ap (min (length c.args.new-codes.now)) c.least.ensures in
+    let room : let a = c.args in c.least-room.result ≡ min (length a.new_codes.now) (min (length a.new_levels.now) (length a.new_colours.now)) = c.least-room.ensures ∙ ap (min (length c.args.new_codes.now)) c.least.ensures in
     let asked : let a = c.args in c.outside-beyond.result ≡ outside (2 ^ a.n) a.x a.y =
     let a = c.args in
     c.outside-beyond.ensures ∙ ap (λ (w : ℕ). outside w a.x a.y) (c.side.ensures ∙ side_is_power a.n (omega (arith, small))) in
@@ -69,10 +69,10 @@ overflow_cast-y c =
 pub repaint-count-requires : goal.repaint-count-requires
 repaint-count-requires c =
     let accepted : let a = c.args in number_of a.n (list_of a.codes.now a.levels.now a.colours.now) ≡ 0 = sym c.check-number.ensures ∙ c.if-number-ne0.false in
-    let room : let a = c.args in c.least-room.result ≡ min (length a.new-codes.now) (min (length a.new-levels.now) (length a.new-colours.now)) = c.least-room.ensures ∙ ap (min (length c.args.new-codes.now)) c.least.ensures in
+    let room : let a = c.args in c.least-room.result ≡ min (length a.new_codes.now) (min (length a.new_levels.now) (length a.new_colours.now)) = c.least-room.ensures ∙ ap (min (length c.args.new_codes.now)) c.least.ensures in
     let small : c.args.n ≤ 8 = (number-zero _ _ _ _ accepted).small in
     let whole : c.pixels-whole.result ≡ 4 ^ c.args.n = c.pixels-whole.ensures ∙ pixels_are_power c.args.n (omega (arith, small)) in
-    let lent : let a = c.args in RoomFor (4 ^ a.n) (list_of a.new-codes.now a.new-levels.now a.new-colours.now) =
+    let lent : let a = c.args in RoomFor (4 ^ a.n) (list_of a.new_codes.now a.new_levels.now a.new_colours.now) =
     let long = c.if-room-whole.false in
     record { in_codes = omega (arith, long, room, whole); in_levels = omega (arith, long, room, whole); in_colours = omega (arith, long, room, whole) } in
     let asked : let a = c.args in c.outside-beyond.result ≡ outside (2 ^ a.n) a.x a.y =
@@ -109,8 +109,8 @@ returns c =
     let accepted : let a = c.args in number_of a.n (list_of a.codes.now a.levels.now a.colours.now) ≡ 0 = sym c.check-number.ensures ∙ c.if-number-ne0.false in
     let small : c.args.n ≤ 8 = (number-zero _ _ _ _ accepted).small in
     let whole : c.pixels-whole.result ≡ 4 ^ c.args.n = c.pixels-whole.ensures ∙ pixels_are_power c.args.n (omega (arith, small)) in
-    let room : let a = c.args in c.least-room.result ≡ min (length a.new-codes.now) (min (length a.new-levels.now) (length a.new-colours.now)) = c.least-room.ensures ∙ ap (min (length c.args.new-codes.now)) c.least.ensures in
-    let lent : let a = c.args in RoomFor (4 ^ a.n) (list_of a.new-codes.now a.new-levels.now a.new-colours.now) =
+    let room : let a = c.args in c.least-room.result ≡ min (length a.new_codes.now) (min (length a.new_levels.now) (length a.new_colours.now)) = c.least-room.ensures ∙ ap (min (length c.args.new_codes.now)) c.least.ensures in
+    let lent : let a = c.args in RoomFor (4 ^ a.n) (list_of a.new_codes.now a.new_levels.now a.new_colours.now) =
     let long = c.if-room-whole.false in
     record { in_codes = omega (arith, long, room, whole); in_levels = omega (arith, long, room, whole); in_colours = omega (arith, long, room, whole) } in
     let asked : let a = c.args in c.outside-beyond.result ≡ outside (2 ^ a.n) a.x a.y =

@@ -1,4 +1,4 @@
-use Prim.Native.Nat.{◌-◌, ◌^◌, ◌≤◌, ◌<◌}
+use Prim.Native.Nat.{◌^◌, ◌≤◌, ◌<◌}
 use native.Mathlib.Omega.{arith}
 use lib.ListN.{length}
 use Rattle.quadtree.specs.BlockLists.{list_of}
@@ -77,12 +77,12 @@ append-pending-requires c =
     c.end_of-other.ensures c.least-done.ensures
 
 pub next_place-i-requires : goal.next_place-i-requires
-next_place-i-requires c = omega (arith, c.loop-i-test.true, c.good)
+next_place-i-requires c = omega (arith, c.loop-i-test.true, c.well_formed)
 
 pub next_place-j-requires : goal.next_place-j-requires
 next_place-j-requires c =
     let second-codes : c.loop-i.j < length c.args.second_codes.now = in_second c.requires c.loop-i.invariant c.loop-i-test.true in
-    omega (arith, second-codes, c.good)
+    omega (arith, second-codes, c.well_formed)
 
 pub loop-i-smaller : goal.loop-i-smaller
 loop-i-smaller c =

@@ -24,7 +24,7 @@ piece_end-done-requires c = on c.requires c.loop-i.invariant c.loop-i-test.true 
 pub offset_bounds-colours-i : goal.offset_bounds-colours-i
 offset_bounds-colours-i c =
     let block : let a = c.args in BlockThere a.n (list_of a.codes.now a.levels.now a.colours.now) c.loop-i.i = there c.requires c.loop-i.invariant c.loop-i-test.true in
-    omega (arith, block.in_colours, c.good)
+    omega (arith, block.in_colours, c.well_formed)
 
 pub bounds-colours-i : goal.bounds-colours-i
 bounds-colours-i c =
@@ -40,7 +40,7 @@ pub append-pending-requires : goal.append-pending-requires
 append-pending-requires c = piece_appendable c.requires c.loop-i.invariant c.loop-i-test.true c.end_of-ending.ensures c.piece_end-done.ensures
 
 pub next_place-i-requires : goal.next_place-i-requires
-next_place-i-requires c = omega (arith, c.loop-i-test.true, c.good)
+next_place-i-requires c = omega (arith, c.loop-i-test.true, c.well_formed)
 
 pub loop-i-smaller : goal.loop-i-smaller
 loop-i-smaller c =

@@ -7,7 +7,7 @@ use Rattle.touching_up.proofs.pass.repaint.Given as goal
 
 abbrev pub invariant-loop-i : goal.invariant-loop-i
 invariant-loop-i l =
-    Passing l.n (list_of l.codes l.levels l.colours) l.pixel l.colour (list_of l.initial.new-codes l.initial.new-levels l.initial.new-colours) (list_of l.new-codes l.new-levels l.new-colours) l.pending l.i
+    Passing l.n (list_of l.codes l.levels l.colours) l.pixel l.colour (list_of l.initial.new_codes l.initial.new_levels l.initial.new_colours) (list_of l.new_codes l.new_levels l.new_colours) l.pending l.i
 
 abbrev pub decreases-loop-i : goal.decreases-loop-i
 decreases-loop-i l = 4 ^ l.n - l.pending.to
