@@ -1,7 +1,6 @@
 use Rattle.listing.specs.MapAndLinks.{blocks_few}
 use Rattle.starts.specs.Progress.{same_owners, same_ends, same_corners, same_areas}
 use Rattle.listing.specs.Regions.{begin, listed_before, again, finish}
-use Prim.Native.Nat.{◌-◌}
 use native.Mathlib.Omega.{arith}
 use Rattle.listing.proofs.list_all.Goals as goal
 

@@ -2,7 +2,6 @@
 -- come next; the link of a block leads to the next one. The measure is what is left of the list.
 use Rattle.starts.specs.Progress.{state}
 use Rattle.listing.specs.Chains.{ChainTo, chain_left}
-use Prim.Native.Nat.{◌-◌}
 use Rattle.listing.proofs.list_region.Given as goal
 
 abbrev pub invariant-loop-next : goal.invariant-loop-next
