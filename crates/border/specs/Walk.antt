@@ -10,7 +10,7 @@ use Rattle.quadtree.specs.Blocks.{Block, blocks, pixels}
 use Rattle.quadtree.specs.Accepted.{Passes}
 use Rattle.staircase.specs.FirstBlocks.{all_pixels}
 use Rattle.components.specs.Walk.{Walking, begin, block-count, level_at_most, block_in_image, column_in_code, row_in_code, north-ready, west-ready}
-use Rattle.components.specs.Walked.{one_block_more}
+use Rattle.components.proofs.Walked.{one_block_more}
 use Rattle.border.specs.BorderSpans.{BorderSpans, SpansJoined}
 
 -- The walk may begin: an accepted list, each block its own parent, and room for the border.

@@ -16,8 +16,9 @@ use Rattle.quadtree.specs.Blocks.{blocks, paint}
 use Rattle.quadtree.specs.Number.{number}
 use Rattle.quadtree.specs.Accepted.{Passes, number-zero}
 use Rattle.components.specs.Numbers.{numbers, labels, regions}
-use Rattle.components.specs.Numbered.{FirstOf, number-below-regions, each_number_given, no_other_by_least_codes}
-use Rattle.components.specs.Labels.{length-labels}
+use Rattle.components.specs.Numbered.{FirstOf}
+use Rattle.components.proofs.Numbered.{number-below-regions, each_number_given, no_other_by_least_codes}
+use Rattle.components.proofs.Labels.{length-labels}
 use Rattle.components.specs.Walk.{block-count}
 use Rattle.lattice.specs.Directions.{right_of, digit, head}
 use Rattle.lattice.specs.Walks.{outline, corners}

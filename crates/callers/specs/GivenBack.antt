@@ -15,9 +15,9 @@ use Rattle.quadtree.specs.Accepted.{Passes, number-zero}
 use Rattle.quadtree.specs.BlockLists.{BlockList, list_of, accepted_covers, length_image}
 use Rattle.block_answers.specs.BlockWriters.{result_of, result_counted}
 use Rattle.components.specs.Numbers.{numbers, labels}
-use Rattle.components.specs.Numbered.{length-numbers, number-below-regions}
+use Rattle.components.proofs.Numbered.{length-numbers, number-below-regions}
 use Rattle.components.specs.Holders.{HoldsAt, holder, held_colour, pixel_held, first_pixel_held, first_pixels_in_image}
-use Rattle.components.specs.Labels.{length-labels, label_of_held}
+use Rattle.components.proofs.Labels.{length-labels, label_of_held}
 use Rattle.components.specs.Walk.{block-count}
 use Rattle.grid.specs.Listing.{Cycle, owners, ends, all_corners, cycle_count, corner_count}
 use Rattle.grid.specs.Stretches.{length-owners, length-ends}

@@ -13,7 +13,7 @@ use Rattle.grid.specs.Outer.{LeastPixel, least_pixel, least_starts}
 use Rattle.grid.specs.Bounds.{cycles_fit, corner-count_fits}
 use Rattle.grid.specs.Forms.{listed_is_cycle_form}
 use Rattle.components.specs.Numbers.{numbers, regions}
-use Rattle.components.specs.Numbered.{each_number_given}
+use Rattle.components.proofs.Numbered.{each_number_given}
 use Rattle.links.specs.Image.{image_outlines}
 use Rattle.lines.specs.Lines.{lines, by_cycles, AllOf, Forms, Regionwise, each_form, cycles_give_lines, cycles_need, cycles_need_suffices}
 

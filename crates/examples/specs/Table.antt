@@ -1,7 +1,5 @@
 -- Dials 1 to 12 of document 01, "Dials to try", without the printing: one table, one theorem.
-use Rattle.std.specs.Prelude.{◌≡◌, refl, List, [], ◌∷◌, map, ℕ, ◌+◌}
-use Rattle.quadtree.specs.Blocks.{blocks}
-use Rattle.components.specs.Numbers.{labels}
+use Rattle.std.specs.Prelude.{refl, List, [], ◌∷◌, map, ℕ, ◌+◌}
 use Rattle.lattice.specs.Parity.{is_even}
 use Rattle.lattice.specs.Directions.{point, x_of, y_of, opposite}
 use Rattle.lattice.specs.Walks.{outline}
@@ -144,9 +142,3 @@ table =
 pub dials : AllHold table
 unfolding table all_hold decimal is_even x_of y_of opposite outline inside byte_of bytes_of digit_of walk is_direction free allowed leads last_byte first_east is_across last_across closes
 dials = all_say table refl
-
--- A saying read off the table: the region numbers of dial 2, block for block.
-pub dial_2_labels : labels 2 (blocks (0 ∷ 1 ∷ 2 ∷ 3 ∷ 4 ∷ 8 ∷ 12 ∷ []) (0 ∷ 0 ∷ 0 ∷ 0 ∷ 1 ∷ 1 ∷ 1 ∷ []) (1 ∷ 1 ∷ 1 ∷ 2 ∷ 1 ∷ 1 ∷ 3 ∷ []))
-    ≡ 0 ∷ 0 ∷ 0 ∷ 1 ∷ 0 ∷ 0 ∷ 2 ∷ []
-unfolding table
-dial_2_labels = dials.1.0.1.0

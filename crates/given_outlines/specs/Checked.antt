@@ -3,7 +3,7 @@ use Rattle.std.specs.Prelude.{◌≡◌, List, ℕ, ◌^◌, ◌≤◌, ◌<◌,
 use Rattle.std.proofs.Math.Path.{sym, ap, subst}
 use Rattle.std.proofs.Common.{◌∙◌}
 use Rattle.components.specs.Numbers.{numbers, regions}
-use Rattle.components.specs.Numbered.{number-below-regions}
+use Rattle.components.proofs.Numbered.{number-below-regions}
 use Rattle.grid.specs.Listing.{listing}
 use Rattle.given_outlines.specs.Given.{Outlines, HasOutlines, coloured, cycles_of, cycles_are_outlines}
 use Rattle.given_outlines.specs.Candidate.{numbers_from, candidate}

@@ -16,7 +16,7 @@ use Rattle.lattice.specs.Walks.{outline}
 use Rattle.orbits.specs.Members.{In}
 use Rattle.orbits.specs.Finding.{member, member_in, member_says}
 use Rattle.components.specs.Numbers.{numbers, regions}
-use Rattle.components.specs.Numbered.{length-numbers, number-below-regions}
+use Rattle.components.proofs.Numbered.{length-numbers, number-below-regions}
 use Rattle.grid.specs.Map.{region_at, around}
 use Rattle.grid.specs.Margins.{region-inside, region_of_code}
 use Rattle.grid.specs.Steps.{Edge}

@@ -7,7 +7,7 @@ use Rattle.sequences.specs.Maps.{get_d_map}
 use Rattle.sequences.specs.Over.{over}
 use Rattle.quadtree.specs.BlockLists.{BlockList, image_of, number_of}
 use Rattle.components.specs.Numbers.{numbers, regions}
-use Rattle.components.specs.Numbered.{length-numbers}
+use Rattle.components.proofs.Numbered.{length-numbers}
 use Rattle.grid.specs.Listing.{Cycle, owners, ends, all_corners, corner_count}
 use Rattle.grid.specs.Stretches.{length-ends}
 use Rattle.links.specs.Image.{image_outlines}

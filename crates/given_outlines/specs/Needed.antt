@@ -2,7 +2,7 @@
 use Rattle.std.specs.Prelude.{◌≡◌, List, ℕ, ◌*◌, ◌^◌, ◌≤◌, ◌<◌, length, get_or}
 use Rattle.std.proofs.Common.{sym, arith}
 use Rattle.components.specs.Numbers.{numbers, regions}
-use Rattle.components.specs.Numbered.{number-below-regions, regions_at_most_pixels}
+use Rattle.components.proofs.Numbered.{number-below-regions, regions_at_most_pixels}
 use Rattle.grid.specs.Map.{region_at}
 use Rattle.grid.specs.Margins.{region-inside}
 use Rattle.grid.specs.Listing.{Cycle, start_codes, owners, cycle_count, corner_count}

@@ -8,9 +8,9 @@ use Rattle.std.proofs.Math.Seq.{ext_get_or, take-length}
 use Rattle.sequences.specs.Ranges.{tabulate, length-tabulate, tabulate_at}
 use Rattle.orbits.specs.Finding.{place_of, place-first, place-holds}
 use Rattle.quadtree.specs.BlockLists.{BlockList, image_of, number_of, accepted_covers, length_image}
-use Rattle.components.specs.Joined.{connected_colour}
+use Rattle.components.proofs.Joined.{connected_colour}
 use Rattle.components.specs.Numbers.{numbers, regions}
-use Rattle.components.specs.Numbered.{length-numbers, number-below-regions, one_number_exactly_when_joined}
+use Rattle.components.proofs.Numbered.{length-numbers, number-below-regions, one_number_exactly_when_joined}
 use Rattle.grid.specs.Listing.{owners, ends, all_corners, corner_count}
 use Rattle.grid.specs.Stretches.{length-owners, length-ends}
 use Rattle.links.specs.Image.{image_outlines}

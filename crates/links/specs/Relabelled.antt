@@ -11,9 +11,9 @@ use Rattle.staircase.specs.FirstBlocks.{all_pixels}
 use Rattle.unions.specs.Counting.{Before, below_most}
 use Rattle.unions.specs.Representatives.{rep}
 use Rattle.components.specs.Numbers.{alike_pairs, numbers, regions, labels}
-use Rattle.components.specs.Numbered.{length-numbers, regions_counted_lem, number-below-regions, numbers_are_region_numbers}
+use Rattle.components.proofs.Numbered.{length-numbers, regions_counted_lem, number-below-regions, numbers_are_region_numbers}
 use Rattle.components.specs.Holders.{block_at, holder, HoldsAt, held_colour, held-before, first_pixel_held, held_in_image, pixel_held}
-use Rattle.components.specs.Labels.{length-labels, label_of_held}
+use Rattle.components.proofs.Labels.{length-labels, label_of_held}
 use Rattle.links.specs.Forward.{Labelled}
 
 -- ---- three lists as blocks: the third only colours them

@@ -8,7 +8,7 @@ use Rattle.interleaving.specs.Codes.{code, column, row}
 use Rattle.interleaving.specs.Interleaving.{code_below, column_of_code, row_of_code}
 use Rattle.components.specs.Joined.{Step, north, east, south, west, Beside}
 use Rattle.components.specs.Numbers.{numbers, regions}
-use Rattle.components.specs.Numbered.{number-below-regions, neighbours_of_one_number_exactly_when_alike}
+use Rattle.components.proofs.Numbered.{number-below-regions, neighbours_of_one_number_exactly_when_alike}
 use Rattle.grid.specs.Map.{region_at}
 use Rattle.grid.specs.Margins.{Pixel, pixel_at, region-inside}
 use Rattle.grid.specs.Sides.{beyond}

@@ -7,10 +7,11 @@ use Rattle.std.proofs.Math.Decide.{ℕ_discrete}
 use Rattle.interleaving.specs.Codes.{code, column, row}
 use Rattle.interleaving.specs.Interleaving.{code_of_coordinates}
 use Rattle.unions.specs.Pairs.{Pair, pair_of, Linked, same, symmetric, transitive, listed, linked_among}
-use Rattle.components.specs.Joined.{Step, north, east, south, west, Beside, Joined, start, on, beside_back, connected_step}
+use Rattle.components.specs.Joined.{Step, north, east, south, west, Beside, Joined, start, on}
+use Rattle.components.proofs.Joined.{beside_back, connected_step}
 use Rattle.components.specs.Numbers.{alike_pairs, numbers, regions}
-use Rattle.components.specs.Neighbours.{connected_linked, linked_exactly_when_connected}
-use Rattle.components.specs.Numbered.{regions_counted_lem}
+use Rattle.components.proofs.Neighbours.{connected_linked, linked_exactly_when_connected}
+use Rattle.components.proofs.Numbered.{regions_counted_lem}
 use Rattle.one_pixel.specs.Agreeing.{AgreeBut, agree_back}
 use Rattle.one_pixel.specs.ClassCounts.{pairs_more, linked_fewer}
 

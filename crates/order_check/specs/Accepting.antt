@@ -5,7 +5,7 @@ use Rattle.std.proofs.Common.{◌∙◌, subst, arith}
 use mathlib.Core.List.{List}
 use Rattle.quadtree.specs.Blocks.{blocks, paint}
 use Rattle.components.specs.Numbers.{regions}
-use Rattle.components.specs.Numbered.{regions_at_most_pixels}
+use Rattle.components.proofs.Numbered.{regions_at_most_pixels}
 use Rattle.regions.specs.Promise.{Numbering}
 use Rattle.regions.specs.Callers.{regions_at_exit, work_is_zero}
 use Rattle.regions.specs.declared.Numbered.{Numbered}

@@ -4,7 +4,7 @@ use Rattle.std.proofs.Common.{sym, ap, ◌∙◌, subst, arith}
 use Rattle.std.proofs.Math.Decide.{dec_lt, ℕ_discrete}
 use Rattle.unions.specs.Counting.{Before}
 use Rattle.components.specs.Numbers.{numbers}
-use Rattle.components.specs.Numbered.{numbers_are_region_numbers}
+use Rattle.components.proofs.Numbered.{numbers_are_region_numbers}
 use Rattle.cycles.specs.Mapped.{nums_of}
 use Rattle.parents.specs.RegionsSettled.{RegionsSettled, RegionNext, RegionSettled}
 

@@ -10,7 +10,7 @@ use Rattle.location.specs.Levels.{pixels_of, pixels_are_power}
 use Rattle.quadtree.specs.Blocks.{Block, blocks, paint}
 use Rattle.components.specs.Holders.{block_at, holder, HoldsAt, held_colour, pixel_held}
 use Rattle.components.specs.Numbers.{numbers, regions}
-use Rattle.components.specs.Numbered.{regions_at_most_pixels, each_number_given}
+use Rattle.components.proofs.Numbered.{regions_at_most_pixels, each_number_given}
 use Rattle.links.specs.Relabelled.{length_as}
 use Rattle.forests.specs.Forest.{ParentsBelow}
 use Rattle.surrounding.specs.Parents.{parent_of}

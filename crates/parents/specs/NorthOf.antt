@@ -14,7 +14,7 @@ use Rattle.orbits.specs.Members.{In}
 use Rattle.grid.specs.North.{side_small}
 use Rattle.grid.specs.Outer.{LeastPixel}
 use Rattle.components.specs.Numbers.{numbers, regions, north_of}
-use Rattle.components.specs.Numbered.{number-below-regions, regions_at_most_pixels}
+use Rattle.components.proofs.Numbered.{number-below-regions, regions_at_most_pixels}
 use Rattle.steps.specs.Look.{mark_bit}
 use Rattle.cycles.specs.Mapped.{nums_of, Marked, entry_of_pixel}
 use Rattle.orbits.specs.Finding.{place_of}

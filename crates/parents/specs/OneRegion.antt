@@ -14,7 +14,7 @@ use Rattle.orbits.specs.Members.{In}
 use Rattle.grid.specs.Cycles.{cycle}
 use Rattle.grid.specs.Outer.{LeastPixel, least_starts}
 use Rattle.components.specs.Numbers.{numbers}
-use Rattle.components.specs.Numbered.{number-below-regions, regions_at_most_pixels}
+use Rattle.components.proofs.Numbered.{number-below-regions, regions_at_most_pixels}
 use Rattle.steps.specs.Look.{mark_bit}
 use Rattle.cycles.specs.Mapped.{nums_of, Mapped, Marked, same_nums}
 use Rattle.cycles.specs.CycleStarts.{CycleStart, CycleMarked}

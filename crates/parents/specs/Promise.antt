@@ -8,7 +8,7 @@ use Rattle.quadtree.specs.Raster.{in_rows}
 use Rattle.staircase.specs.FirstBlocks.{block_placed}
 use Rattle.components.specs.Holders.{block_at, holder, HoldsAt, pixels_grow, held_colour, held_in_image, pixel_held, first_pixel_held}
 use Rattle.components.specs.Numbers.{numbers, regions}
-use Rattle.components.specs.Numbered.{regions_at_most_pixels, each_number_given}
+use Rattle.components.proofs.Numbered.{regions_at_most_pixels, each_number_given}
 use Rattle.links.specs.Forward.{Labelled}
 use Rattle.links.specs.Relabelled.{length_as, code_as, colour_as}
 use Rattle.mapping.specs.Filling.{raised, Fillable, MapFilled, map-filled}

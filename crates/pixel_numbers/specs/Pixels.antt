@@ -14,7 +14,7 @@ use Rattle.unions.specs.Joining.{Forest}
 use Rattle.unions.specs.RootNumbers.{numbers_below, length-numbers_below, numbers_at}
 use Rattle.interleaving.specs.Spreads.{spreads}
 use Rattle.components.specs.Numbers.{west_of, north_of, pair_if_alike, alike_pairs, numbers, regions}
-use Rattle.components.specs.Numbered.{length-numbers, number_at, regions_counted_lem}
+use Rattle.components.proofs.Numbered.{length-numbers, number_at, regions_counted_lem}
 use Rattle.components.specs.Spans.{join_if_alike, alike-joined, unlike_kept}
 use Rattle.pixel_numbers.specs.Promise.{map_image, Comparable}
 use Rattle.pixel_numbers.specs.Parents.{parents_of, OnlyParents, nothing_changed, changed_twice, image_kept, still_comparable}

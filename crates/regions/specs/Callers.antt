@@ -16,9 +16,10 @@ use Rattle.quadtree.specs.Accepted.{Passes, number-zero}
 use Rattle.staircase.specs.FirstBlocks.{Within}
 use Rattle.components.specs.Joined.{Joined}
 use Rattle.components.specs.Numbers.{numbers, labels, regions}
-use Rattle.components.specs.Numbered.{ByLeastCodes, length-numbers, numbers_by_least_codes}
+use Rattle.components.specs.Numbered.{ByLeastCodes}
+use Rattle.components.proofs.Numbered.{length-numbers, numbers_by_least_codes}
 use Rattle.components.specs.Holders.{block_at, holder, pixel_held}
-use Rattle.components.specs.Labels.{length-labels, label_of_pixel_lem, accepted_labels_equal_exactly_when_joined}
+use Rattle.components.proofs.Labels.{length-labels, label_of_pixel_lem, accepted_labels_equal_exactly_when_joined}
 use Rattle.components.specs.Walk.{block-count}
 use Rattle.regions.specs.declared.Numbered.{Numbered}
 use Rattle.regions.specs.Promise.{numbering_number, labels_written, zeros_written, regions_counted, Numbering, none}

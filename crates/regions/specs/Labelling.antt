@@ -17,9 +17,9 @@ use Rattle.unions.specs.Counting.{below}
 use Rattle.unions.specs.Roots.{root}
 use Rattle.unions.specs.RootNumbers.{numbers_below}
 use Rattle.components.specs.Numbers.{labels, regions}
-use Rattle.components.specs.Labels.{length-labels}
+use Rattle.components.proofs.Labels.{length-labels}
 use Rattle.components.specs.Walk.{block-count}
-use Rattle.components.specs.Walked.{labels_found, regions_found, work_cleared}
+use Rattle.components.proofs.Walked.{labels_found, regions_found, work_cleared}
 use Rattle.border.specs.Walk.{Walkable, Walked, few_blocks}
 use Rattle.regions.specs.Promise.{Numbering, numbered}
 

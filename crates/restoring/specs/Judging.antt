@@ -9,7 +9,7 @@ use Rattle.interleaving.specs.Codes.{code}
 use Rattle.interleaving.specs.Interleaving.{code_below}
 use Rattle.quadtree.specs.Orders.{column_in, row_in}
 use Rattle.components.specs.Numbers.{numbers, regions}
-use Rattle.components.specs.Numbered.{number-below-regions}
+use Rattle.components.proofs.Numbered.{number-below-regions}
 use Rattle.grid.specs.Listing.{corner_count}
 use Rattle.links.specs.Image.{image_outlines}
 use Rattle.grid.specs.Stretches.{length-ends}

@@ -3,9 +3,10 @@ use Rattle.std.specs.Prelude.{◌≡◌, ◌≢◌, ◌⊎◌, ◌↔◌, List, 
 use Rattle.std.proofs.Common.{sym, ap, ◌∙◌, subst, inl, inr, arith}
 use Rattle.std.proofs.Math.Decide.{ℕ_discrete}
 use Rattle.sequences.specs.Induction.{strong}
-use Rattle.components.specs.Joined.{Beside, beside_back}
+use Rattle.components.specs.Joined.{Beside}
+use Rattle.components.proofs.Joined.{beside_back}
 use Rattle.components.specs.Numbers.{numbers, regions, north_of}
-use Rattle.components.specs.Neighbours.{north_beside}
+use Rattle.components.proofs.Neighbours.{north_beside}
 use Rattle.forests.specs.Forest.{ParentsBelow, Above, parent, further, above_below, above_cases, above_none, above_same}
 use Rattle.orbits.specs.Finding.{place_of}
 use Rattle.surrounding.specs.Surrounds.{north, Surrounds}

@@ -20,7 +20,7 @@ use Rattle.grid.specs.Starting.{margin}
 use Rattle.grid.specs.Listed.{listing-length, owner_at, outline_at}
 use Rattle.grid.specs.Outer.{LeastPixel, least_starts, first-starts_least}
 use Rattle.components.specs.Numbers.{numbers, regions}
-use Rattle.components.specs.Numbered.{number-below-regions}
+use Rattle.components.proofs.Numbered.{number-below-regions}
 use Rattle.orbits.specs.Finding.{place_of}
 use Rattle.surrounding.specs.SouthSides.{south_side}
 use Rattle.surrounding.specs.Parents.{first_cycle, least_of_lem}

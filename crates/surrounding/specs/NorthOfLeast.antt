@@ -12,10 +12,11 @@ use Rattle.grid.specs.Steps.{Edge}
 use Rattle.grid.specs.Sides.{beyond, side_is_edge}
 use Rattle.grid.specs.North.{side_small}
 use Rattle.grid.specs.Outer.{LeastPixel, nothing-north}
-use Rattle.components.specs.Joined.{connected_to}
+use Rattle.components.proofs.Joined.{connected_to}
 use Rattle.components.specs.Numbers.{numbers, north_of}
-use Rattle.components.specs.Neighbours.{north-le, north_beside}
-use Rattle.components.specs.Numbered.{LeastCode, one_number_exactly_when_joined, numbers_rise_with_least_codes}
+use Rattle.components.proofs.Neighbours.{north-le, north_beside}
+use Rattle.components.specs.Numbered.{LeastCode}
+use Rattle.components.proofs.Numbered.{one_number_exactly_when_joined, numbers_rise_with_least_codes}
 use Rattle.surrounding.specs.SouthSides.{south_side}
 
 -- The least pixel c of a region, not in the first row; the region t of the pixel north of it, and the least pixel a of t.

@@ -11,8 +11,9 @@ use Rattle.grid.specs.Figures.{figure5a, figure5b}
 use Rattle.grid.specs.Cycles.{cycle}
 use Rattle.grid.specs.Outer.{LeastPixel}
 use Rattle.components.specs.Numbers.{numbers, regions, north_of}
-use Rattle.components.specs.Neighbours.{north_beside}
-use Rattle.components.specs.Numbered.{length-numbers, number-below-regions, FirstOf, each_number_given}
+use Rattle.components.proofs.Neighbours.{north_beside}
+use Rattle.components.specs.Numbered.{FirstOf}
+use Rattle.components.proofs.Numbered.{length-numbers, number-below-regions, each_number_given}
 use Rattle.orbits.specs.Finding.{place_of, member, place-first, place-holds, member_in, member_not}
 use Rattle.surrounding.specs.SouthSides.{south_side}
 use Rattle.surrounding.specs.NorthOfLeast.{Below, smaller_number}

@@ -1,9 +1,10 @@
 -- Paths outside a region: one after the other, within another region, over a side.
 use Rattle.std.specs.Prelude.{◌≡◌, ◌≢◌, List, ℕ, ◌^◌, ◌<◌, get_or}
 use Rattle.std.proofs.Common.{◌∙◌, arith}
-use Rattle.components.specs.Joined.{Step, north, east, south, west, Beside, start, on, Joined, connected_from}
+use Rattle.components.specs.Joined.{Step, north, east, south, west, Beside, start, on, Joined}
+use Rattle.components.proofs.Joined.{connected_from}
 use Rattle.components.specs.Numbers.{numbers}
-use Rattle.components.specs.Numbered.{one_number_exactly_when_joined}
+use Rattle.components.proofs.Numbered.{one_number_exactly_when_joined}
 use Rattle.surrounding.specs.Surrounds.{Near, Outside, start, on, Escapes}
 
 module _ {n : ℕ} {nums : List ℕ} {r : ℕ} where

@@ -11,7 +11,7 @@ use Rattle.quadtree.specs.Blocks.{blocks, paint}
 use Rattle.quadtree.specs.Number.{number_with}
 use Rattle.quadtree.specs.Accepted.{number-zero}
 use Rattle.components.specs.Numbers.{numbers, labels, regions}
-use Rattle.components.specs.Numbered.{number-below-regions}
+use Rattle.components.proofs.Numbered.{number-below-regions}
 use Rattle.regions.specs.Promise.{Numbering, numbering_number, labels_written, zeros_written, regions_counted}
 use Rattle.regions.specs.Callers.{refusal_leaves_all}
 use Rattle.regions.specs.declared.Numbered.{Numbered}

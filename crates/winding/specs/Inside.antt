@@ -15,9 +15,10 @@ use Rattle.grid.specs.Returning.{Ring, ring}
 use Rattle.grid.specs.North.{side_small}
 use Rattle.grid.specs.Starting.{StartAt, margin}
 use Rattle.grid.specs.Closing.{cycle-first, closed_walk}
-use Rattle.components.specs.Joined.{Step, north, east, south, west, start, on, Joined, connected_from, connected_to}
+use Rattle.components.specs.Joined.{Step, north, east, south, west, start, on, Joined}
+use Rattle.components.proofs.Joined.{connected_from, connected_to}
 use Rattle.components.specs.Numbers.{numbers}
-use Rattle.components.specs.Numbered.{one_number_exactly_when_joined}
+use Rattle.components.proofs.Numbered.{one_number_exactly_when_joined}
 use Rattle.winding.specs.Edges.{row_of, RightOnly, right_only}
 use Rattle.winding.specs.Pixels.{WithinImage}
 use Rattle.winding.specs.Neighbours.{ClosedWalk, SameWinding, beside_north, beside_west, both_inside}

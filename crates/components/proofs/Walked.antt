@@ -20,7 +20,7 @@ use Rattle.components.specs.Numbers.{regions, labels}
 use Rattle.components.specs.Holders.{HoldsAt}
 use Rattle.components.specs.LastBlocks.{last_in_column, last_in_row, ColumnOf, RowOf, columns_written, rows_written, other_columns_kept, other_rows_kept}
 use Rattle.components.specs.BlockPairs.{block_pairs, pairs_one_more}
-use Rattle.components.specs.BlockNumbers.{one_root_exactly_when_connected, block_numbers_are_labels, block_count_is_regions}
+use Rattle.components.proofs.BlockNumbers.{one_root_exactly_when_connected, block_numbers_are_labels, block_count_is_regions}
 use Rattle.components.specs.Walk.{Walking, north_span, west_span, stored, block-count, inside, column_of, row_of, of_column, of_row, block_in_image, north_span_lem, west_span_lem}
 
 module _ {n : ℕ} {cs ls ks : List ℕ} (passes : Passes n cs ls ks) {work₀ : List ℕ} {k : ℕ} {work p : List ℕ} (w : Walking n cs ls ks work₀ k work p) where

@@ -12,9 +12,10 @@ use Rattle.quadtree.specs.Blocks.{Block, pixels, paint}
 use Rattle.quadtree.specs.Number.{cover}
 use Rattle.quadtree.specs.Fields.{colours}
 use Rattle.unions.specs.Pairs.{Pair, pair_of, Linked, same, symmetric, transitive, listed, linked_as}
-use Rattle.components.specs.Joined.{Step, north, east, south, west, Beside, Connected, start, on, connected_from, connected_to, connected_through, connected_step, connected_back}
+use Rattle.components.specs.Joined.{Step, north, east, south, west, Beside, Connected, start, on}
+use Rattle.components.proofs.Joined.{connected_from, connected_to, connected_through, connected_step, connected_back}
 use Rattle.components.specs.Holders.{block_at, holder, HoldsAt, one_holder, held-before, held_colour, placed, pixel_held}
-use Rattle.components.specs.Labels.{block_is_connected}
+use Rattle.components.proofs.Labels.{block_is_connected}
 use Rattle.components.specs.LastBlocks.{last_in_column, last_in_row, ColumnOf, RowOf, square-held, held-square, north-entry, west-entry}
 use Rattle.components.specs.BlockPairs.{north_pairs, west_pairs, block_pairs, OfSpan, span_pair, span-listed, north_pairs_lem, no_north_pairs, west_pairs_lem, no_west_pairs, no_pairs, north_among, west_among, newest_pairs}
 

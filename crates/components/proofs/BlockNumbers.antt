@@ -16,11 +16,12 @@ use Rattle.unions.specs.Roots.{root}
 use Rattle.unions.specs.RootNumbers.{numbers_below, length-numbers_below, numbers_at}
 use Rattle.components.specs.Joined.{Connected, Joined}
 use Rattle.components.specs.Numbers.{numbers, regions, labels}
-use Rattle.components.specs.Numbered.{RegionNumbers, no_other_numbering, each_number_given, number-below-regions}
+use Rattle.components.specs.Numbered.{RegionNumbers}
+use Rattle.components.proofs.Numbered.{no_other_numbering, each_number_given, number-below-regions}
 use Rattle.components.specs.Holders.{holder, HoldsAt, pixels_grow, is_holder, pixel_held, first_pixel_held, held_in_image}
-use Rattle.components.specs.Labels.{all_first_pixels, label_of_held, length-labels}
+use Rattle.components.proofs.Labels.{all_first_pixels, label_of_held, length-labels}
 use Rattle.components.specs.BlockPairs.{block_pairs}
-use Rattle.components.specs.LinkedBlocks.{linked_exactly_when_connected}
+use Rattle.components.proofs.LinkedBlocks.{linked_exactly_when_connected}
 
 module _ (n : ℕ) (bs : List Block) (covering : cover n 0 bs ≡ 0) where
   -- Where the roots are the representatives of the pairs joined by the first k blocks: two of them have one root exactly when paths

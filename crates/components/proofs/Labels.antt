@@ -8,11 +8,12 @@ use Rattle.quadtree.specs.Blocks.{Block, blocks, pixels, paint}
 use Rattle.quadtree.specs.Number.{cover, number}
 use Rattle.quadtree.specs.Accepted.{number-zero}
 use Rattle.staircase.specs.FirstBlocks.{Within, all_pixels}
-use Rattle.components.specs.Joined.{Connected, Joined, connected_through, connected_back}
+use Rattle.components.specs.Joined.{Connected, Joined}
+use Rattle.components.proofs.Joined.{connected_through, connected_back}
 use Rattle.components.specs.Numbers.{numbers, labels}
-use Rattle.components.specs.Numbered.{one_number_exactly_when_joined}
+use Rattle.components.proofs.Numbered.{one_number_exactly_when_joined}
 use Rattle.components.specs.Holders.{block_at, holder, HoldsAt, pixels_grow, held_colour, held-before, placed, pixels_with, within_held, first_pixel_held, held_in_image, pixel_held}
-use Rattle.components.specs.ConnectedSquares.{OneColour, square_is_connected}
+use Rattle.components.proofs.ConnectedSquares.{OneColour, square_is_connected}
 
 pub length-labels : (n : ℕ) (bs : List Block) → length (labels n bs) ≡ length bs
 unfolding labels

@@ -5,7 +5,8 @@ use Rattle.sequences.specs.Powers.{pow2_pos}
 use Rattle.interleaving.specs.Codes.{code, column, row}
 use Rattle.interleaving.specs.Interleaving.{column-below, row_below, column_of_code, row_of_code, code_of_coordinates}
 use Rattle.location.specs.Squares.{block_is_square, pixel_in_block, square_in_image}
-use Rattle.components.specs.Joined.{Step, north, west, Connected, start, connected_through, connected_step}
+use Rattle.components.specs.Joined.{Step, north, west, Connected, start}
+use Rattle.components.proofs.Joined.{connected_through, connected_step}
 
 -- The square of level l at the code d, all its pixels among the codes below m and of one colour.
 pub record OneColour (n : ℕ) (px : List ℕ) (m l d : ℕ) : Type 0 where

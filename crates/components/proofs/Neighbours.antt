@@ -10,7 +10,8 @@ use Rattle.interleaving.specs.Codes.{code, column, row}
 use Rattle.interleaving.specs.Interleaving.{column-below, row_below, column_of_code, row_of_code, code_of_coordinates}
 use Rattle.staircase.specs.Staircase.{code_grows}
 use Rattle.unions.specs.Pairs.{Pair, pair_of, Linked, same, symmetric, transitive, listed, linked_as}
-use Rattle.components.specs.Joined.{Step, north, east, south, west, Beside, Connected, start, on, connected_to, connected_through, connected_step, connected_back}
+use Rattle.components.specs.Joined.{Step, north, east, south, west, Beside, Connected, start, on}
+use Rattle.components.proofs.Joined.{connected_to, connected_through, connected_step, connected_back}
 use Rattle.components.specs.Numbers.{west_of, north_of, pair_if_alike, alike_pairs}
 
 -- ---- the neighbour in the west, and the one in the north

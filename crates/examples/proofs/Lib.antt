@@ -1,0 +1,2 @@
+-- What is read off the table of dials.
+pub mod Sayings
