@@ -1,4 +1,3 @@
-use Prim.Native.Nat.{◌-◌}
 use native.Mathlib.Omega.{arith}
 use Rattle.map_blocks.specs.Pass.{first_read, first_colour, passing_none, code_small, four_painted, four_next, passing_more, passed}
 use Rattle.map_blocks.proofs.write_blocks.Goals as goal

@@ -6,7 +6,7 @@ use Rattle.map_blocks.proofs.write_blocks.Given as goal
 
 abbrev pub invariant-loop-pending : goal.invariant-loop-pending
 invariant-loop-pending l =
-    Passing l.n l.map l.region-colours (list_of l.initial.codes l.initial.levels l.initial.colours) (list_of l.codes l.levels l.colours) l.pending
+    Passing l.n l.map l.region_colours (list_of l.initial.codes l.initial.levels l.initial.colours) (list_of l.codes l.levels l.colours) l.pending
 
 abbrev pub decreases-loop-pending : goal.decreases-loop-pending
 decreases-loop-pending l = l.whole - l.pending.to

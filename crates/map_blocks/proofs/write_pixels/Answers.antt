@@ -1,4 +1,3 @@
-use Prim.Native.Nat.{◌-◌}
 use native.Mathlib.Omega.{arith}
 use Rattle.map_blocks.specs.Pixels.{pixels_none, pixels_same, pixel_room, pixels-more, pixels_all}
 use Rattle.map_blocks.proofs.write_pixels.Goals as goal
