@@ -87,7 +87,7 @@ repaint-count-requires c =
     let a = c.args in
     c.code-pixel.ensures ∙ code_wider a.n 16 a.x a.y (omega (arith, small)) below.0 below.1 in
     let a = c.args in
-    record { accepted = accepted c; in_image = omega (arith, pixel-code, code_below a.n a.x a.y); room = lent }
+    record { accepted = accepted; in_image = omega (arith, pixel-code, code_below a.n a.x a.y); room = lent }
 
 pub overflow_cast-count : goal.overflow_cast-count
 overflow_cast-count c =
