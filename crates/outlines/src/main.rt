@@ -8,11 +8,12 @@ ghost use Rattle.program.specs.Ran.{Room, Ran};
 use printing::Order;
 
 // Reads a file and prints its text.
-fn print_outlines(buffer: &mut [u8], text: &mut [u8])
+fn print_outlines(rt: &HostRuntime, buffer: &mut [u8], text: &mut [u8])
     requires { Room buffer.old text.old }
     ensures { Ran Order.Rows buffer.new text.old text.new }
 {
     program::run(
+        rt,
         Order::Rows,
         b"outlines: the text could not be written whole\n",
         buffer,
@@ -20,8 +21,8 @@ fn print_outlines(buffer: &mut [u8], text: &mut [u8])
     );
 }
 
-fn main() {
+fn main(rt: HostRuntime) {
     let mut buffer = [0u8; printing::INPUT_LIMIT + 1];
     let mut text = [0u8; printing::TEXT_ROOM];
-    print_outlines(&mut buffer, &mut text);
+    print_outlines(&rt, &mut buffer, &mut text);
 }

@@ -2,20 +2,34 @@
 #![tactic(auto)]
 
 ghost use Rattle.std.specs.Prelude.{◌≤◌, length, take};
-ghost use Rattle.io.specs.Counts.{IsPrefixLen};
 ghost use Rattle.answers.specs.Put.{Put};
 ghost use Rattle.printing.specs.Printed.{text_room, whole_text};
 ghost use Rattle.program.specs.Ran.{Room, Ran};
 
-use libc::{STDERR_FILENO, STDIN_FILENO, STDOUT_FILENO};
 use printing::Order;
+use std::io::{Read, Write};
+
+// Reads until the buffer is full, the input ends or a read fails, and answers how many bytes stand at the front of the buffer.
+fn read_full(rt: &HostRuntime, buffer: &mut [u8]) -> usize
+    ensures { result ≤ length buffer.new }
+{
+    let mut stdin = rt.stdin();
+    let mut done = 0;
+    while done < buffer.len() {
+        match stdin.read(&mut buffer[done..]) {
+            Ok(count) if count > 0 => done += count,
+            _ => break,
+        }
+    }
+    done
+}
 
 // The whole text for the bytes read, the front of a buffer. It is put at the front of a list that has room for any text; the answer is
 // its length.
 fn answer(buffer: &[u8], read: usize, order: Order, text: &mut [u8]) -> usize
-    requires { IsPrefixLen read buffer.now × (text_room ≤ length text.old) }
+    requires { (read ≤ length buffer.now) × (text_room ≤ length text.old) }
     ensures put { Put (whole_text order (take read buffer.now)) text.old text.new result }
-    ensures prefix_len { IsPrefixLen result text.new }
+    ensures within { result ≤ length text.new }
 {
     let printed = printing::print(&buffer[..read], order, text);
     printed.count as usize
@@ -23,13 +37,13 @@ fn answer(buffer: &[u8], read: usize, order: Order, text: &mut [u8]) -> usize
 
 // Reads a file whose samples stand in this order, and prints its text. More bytes than the limit are asked for, so that a longer input is
 // seen and not cut. A text that could not be written whole is told on standard error by the complaint.
-pub fn run(order: Order, complaint: &[u8], buffer: &mut [u8], text: &mut [u8])
+pub fn run(rt: &HostRuntime, order: Order, complaint: &[u8], buffer: &mut [u8], text: &mut [u8])
     requires { Room buffer.old text.old }
     ensures { Ran order buffer.new text.old text.new }
 {
-    let read = io::read_full(STDIN_FILENO, buffer);
+    let read = read_full(rt, buffer);
     let count = answer(buffer, read, order, text);
-    if !io::write_all(STDOUT_FILENO, &text[..count]) {
-        io::write_all(STDERR_FILENO, complaint);
+    if rt.stdout().write_all(&text[..count]).is_err() {
+        let _told = rt.stderr().write_all(complaint);
     }
 }
