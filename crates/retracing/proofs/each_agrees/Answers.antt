@@ -1,3 +1,5 @@
+use Rattle.std.specs.Prelude.{not}
+use Rattle.std.proofs.Math.Path.{ap}
 use Prim.Native.Nat.{◌-◌, ◌≤◌, ◌<◌}
 use native.Mathlib.Omega.{arith}
 use lib.ListN.{length, get_or}
@@ -44,32 +46,32 @@ pub shape_of-map-then-not-cycle_agrees : goal.shape_of-map-then-not-cycle_agrees
 shape_of-map-then-not-cycle_agrees c = long_then c.requires.0 c.loop-k.invariant c.loop-k-test.true c.cycle_agrees.ensures
 
 pub returns-then-not-cycle_agrees : goal.returns-then-not-cycle_agrees
-returns-then-not-cycle_agrees c = not_a_cycle c.requires.0 c.loop-k.invariant c.loop-k-test.true c.cycle_agrees.ensures c.if-not-cycle_agrees.true
+returns-then-not-cycle_agrees c = not_a_cycle c.requires.0 c.loop-k.invariant c.loop-k-test.true c.cycle_agrees.ensures (ap not c.if-not-cycle_agrees.true)
 
 pub offset_bounds-corners-begin-in-loop-k : goal.offset_bounds-corners-begin-in-loop-k
 offset_bounds-corners-begin-in-loop-k c =
     let corner-there : c.loop-k.begin < length c.args.corners.now =
-    corner-inside c.requires.0 c.loop-k.invariant c.loop-k-test.true c.cycle_agrees.ensures c.if-not-cycle_agrees.false in
+    corner-inside c.requires.0 c.loop-k.invariant c.loop-k-test.true c.cycle_agrees.ensures (ap not c.if-not-cycle_agrees.false) in
     omega (arith, corner-there)
 
 pub bounds-corners-begin : goal.bounds-corners-begin
 bounds-corners-begin c =
     let corner-there : c.loop-k.begin < length c.args.corners.now =
-    corner-inside c.requires.0 c.loop-k.invariant c.loop-k-test.true c.cycle_agrees.ensures c.if-not-cycle_agrees.false in
+    corner-inside c.requires.0 c.loop-k.invariant c.loop-k-test.true c.cycle_agrees.ensures (ap not c.if-not-cycle_agrees.false) in
     corner-there
 
 pub rank-r-requires : goal.rank-r-requires
 rank-r-requires c = (
   c.requires.1,
-  x_low c.requires.0 c.loop-k.invariant c.loop-k-test.true c.cycle_agrees.ensures c.if-not-cycle_agrees.false,
-  y_low c.requires.0 c.loop-k.invariant c.loop-k-test.true c.cycle_agrees.ensures c.if-not-cycle_agrees.false,
+  x_low c.requires.0 c.loop-k.invariant c.loop-k-test.true c.cycle_agrees.ensures (ap not c.if-not-cycle_agrees.false),
+  y_low c.requires.0 c.loop-k.invariant c.loop-k-test.true c.cycle_agrees.ensures (ap not c.if-not-cycle_agrees.false),
 )
 
 pub shape_of-map-then-r-least : goal.shape_of-map-then-r-least
 shape_of-map-then-r-least c = long_then c.requires.0 c.loop-k.invariant c.loop-k-test.true c.cycle_agrees.ensures
 
 pub returns-then-r-least : goal.returns-then-r-least
-returns-then-r-least c = out_of_order c.requires.0 c.loop-k.invariant c.loop-k-test.true c.cycle_agrees.ensures c.if-not-cycle_agrees.false c.rank-r.ensures c.if-r-least.true
+returns-then-r-least c = out_of_order c.requires.0 c.loop-k.invariant c.loop-k-test.true c.cycle_agrees.ensures (ap not c.if-not-cycle_agrees.false) c.rank-r.ensures c.if-r-least.true
 
 pub overflow_add-least : goal.overflow_add-least
 overflow_add-least c =
@@ -83,7 +85,7 @@ pub loop-k-smaller : goal.loop-k-smaller
 loop-k-smaller c = omega (arith, c.loop-k-test.true)
 
 pub loop-k-preserved : goal.loop-k-preserved
-loop-k-preserved c = again c.requires.0 c.loop-k.invariant c.loop-k-test.true c.cycle_agrees.ensures c.if-not-cycle_agrees.false c.rank-r.ensures c.if-r-least.false
+loop-k-preserved c = again c.requires.0 c.loop-k.invariant c.loop-k-test.true c.cycle_agrees.ensures (ap not c.if-not-cycle_agrees.false) c.rank-r.ensures c.if-r-least.false
 
 pub shape_of-map : goal.shape_of-map
 shape_of-map c = c.loop-k.invariant.long

@@ -1,3 +1,5 @@
+use Rattle.std.specs.Prelude.{not}
+use Rattle.std.proofs.Math.Path.{ap}
 use Prim.Native.Nat.{◌-◌}
 use native.Mathlib.Omega.{arith}
 use Rattle.retracing.specs.LastPass.{begin, place_inside, unmarked_found, again, finish}
@@ -10,13 +12,13 @@ pub passes-requires : goal.passes-requires
 passes-requires c = place_inside c.loop-i.invariant c.pixels-count.ensures c.loop-i-test.true
 
 pub returns-then-not-passes : goal.returns-then-not-passes
-returns-then-not-passes c = unmarked_found c.loop-i.invariant c.pixels-count.ensures c.side-side.ensures c.loop-i-test.true c.passes.ensures c.if-not-passes.true
+returns-then-not-passes c = unmarked_found c.loop-i.invariant c.pixels-count.ensures c.side-side.ensures c.loop-i-test.true c.passes.ensures (ap not c.if-not-passes.true)
 
 pub loop-i-smaller : goal.loop-i-smaller
 loop-i-smaller c = omega (arith, c.loop-i-test.true)
 
 pub loop-i-preserved : goal.loop-i-preserved
-loop-i-preserved c = again c.loop-i.invariant c.pixels-count.ensures c.side-side.ensures c.loop-i-test.true c.passes.ensures c.if-not-passes.false
+loop-i-preserved c = again c.loop-i.invariant c.pixels-count.ensures c.side-side.ensures c.loop-i-test.true c.passes.ensures (ap not c.if-not-passes.false)
 
 pub returns : goal.returns
 returns c = finish c.loop-i.invariant c.pixels-count.ensures c.loop-i-test.false
