@@ -1,7 +1,7 @@
 -- The loop's invariant: the first k cycles agree and stand in order, and the map bears their marks. The measure: the cycles that are left.
 use Prim.Native.Nat.{◌-◌}
 use lib.ListN.{length}
-use Rattle.retracing.specs.Checking.{Checking, begin}
+use Rattle.retracing.specs.Checking.{Checking}
 use Rattle.retracing.proofs.each_agrees.Given as goal
 
 abbrev pub invariant-loop-k : goal.invariant-loop-k

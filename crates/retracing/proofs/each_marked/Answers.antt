@@ -1,6 +1,5 @@
 use Rattle.std.specs.Prelude.{not}
 use Rattle.std.proofs.Math.Path.{ap}
-use Prim.Native.Nat.{◌-◌}
 use native.Mathlib.Omega.{arith}
 use Rattle.retracing.specs.LastPass.{begin, place_inside, unmarked_found, again, finish}
 use Rattle.retracing.proofs.each_marked.Goals as goal

@@ -1,4 +1,3 @@
-use Prim.Native.Nat.{◌-◌}
 use native.Mathlib.Omega.{arith}
 use Rattle.west_sides.specs.Rows.{row_not_told, row_begin, row_again, row_end}
 use Rattle.west_sides.proofs.fill_row.Goals as goal

@@ -1,5 +1,4 @@
 use mathlib.Core.Path.{refl}
-use Prim.Native.Nat.{◌-◌}
 use native.Mathlib.Omega.{arith}
 use Rattle.west_sides.specs.Rows.{rows_begin, row_fits, fewer_entries, row-lent, no_more_rows, one_row_more, rows_end}
 use Rattle.west_sides.proofs.fill_rows.Goals as goal
@@ -32,4 +31,4 @@ pub returns : goal.returns
 returns c = rows_end c.requires c.loop-from.invariant (omega (arith, c.loop-from-test.false))
 
 pub shape_of-map : goal.shape_of-map
-shape_of-map c = (returns-then-not-fill_row c).long
+shape_of-map c = (returns c).long

@@ -1,10 +1,9 @@
 -- A leg that does not go north stores nothing. One that does is stored where it begins inside the image and is no longer than the units.
-use mathlib.Core.Logic.{⊎_elim}
 use native.Mathlib.Omega.{arith}
 use Rattle.lattice.specs.Directions.{x_of, y_of}
 use Rattle.west_sides.specs.Legs.{leg_not_north, leg_east_of_image, leg_south_of_image, leg_too_long, leg_stored}
-use borrow.Author.Tests.{ltb-true, ltb-false}
 use Rattle.west_sides.proofs.store_leg.Goals as goal
+use Rattle.west_sides.proofs.store_leg.Goals.{then-side-x-via-then-side-x, then-side-x-via-else-side-x+then-side-from, then-side-x-via-else-side-x+else-side-from+then-units-from}
 
 pub returns-then-from-to : goal.returns-then-from-to
 unfolding y_of
@@ -14,18 +13,17 @@ pub returns-then-side-x : goal.returns-then-side-x
 unfolding x_of y_of
 returns-then-side-x c =
     let n = c.if-from-to.false in
-    ⊎_elim
-    (λ e. leg_east_of_image _ _ _ _ (omega (arith, n)) _ _ _ e.taken)
-    (⊎_elim
-    (λ e. leg_south_of_image _ _ _ _ (omega (arith, n)) _ _ _ (ltb-true _ _ e.1.true))
-    (λ e. leg_too_long _ _ _ _ (omega (arith, n)) _ _ _ (ltb-true _ _ e.2.true)))
-    c.then-side-x.branch
+    elim c.then-side-x.branch [
+      | then-side-x-via-then-side-x w ↦ leg_east_of_image _ _ _ _ (omega (arith, n)) _ _ _ w.if-side-x.true
+      | then-side-x-via-else-side-x+then-side-from w ↦ leg_south_of_image _ _ _ _ (omega (arith, n)) _ _ _ w.if-side-from.true
+      | then-side-x-via-else-side-x+else-side-from+then-units-from w ↦ leg_too_long _ _ _ _ (omega (arith, n)) _ _ _ w.if-units-from.true
+    ]
 
 pub store_north-requires : goal.store_north-requires
-store_north-requires c = (c.requires, omega (arith, c.if-side-x.false), ltb-false _ _ c.if-side-from.false)
+store_north-requires c = (c.requires, c.if-side-x.false, c.if-side-from.false)
 
 pub returns : goal.returns
 unfolding x_of y_of
 returns c =
-    leg_stored _ _ _ _ (omega (arith, c.if-from-to.false)) _ (omega (arith, c.if-side-x.false)) (ltb-false _ _ c.if-side-from.false)
-    (ltb-false _ _ c.if-units-from.false) c.store_north.auto.0 c.store_north.ensures
+    leg_stored _ _ _ _ (omega (arith, c.if-from-to.false)) _ c.if-side-x.false c.if-side-from.false c.if-units-from.false
+    c.store_north.auto.map c.store_north.ensures

@@ -1,5 +1,4 @@
 use mathlib.Core.Path.{refl}
-use Prim.Native.Nat.{◌-◌}
 use native.Mathlib.Omega.{arith}
 use Rattle.west_sides.specs.Legs.{north-start, north_begin, NextNorth, next-north, north_again, north_end}
 use Rattle.west_sides.proofs.store_north.Goals as goal

@@ -18,4 +18,4 @@ pub returns : goal.returns
 returns c = rows_tell c.requires c.side-side.ensures c.fill.ensures c.store_cycles.ensures c.if-not-store_cycles.false c.fill_rows.ensures
 
 pub shape_of-map : goal.shape_of-map
-shape_of-map c = (returns-then-not-store_cycles c).long
+shape_of-map c = (returns c).long
