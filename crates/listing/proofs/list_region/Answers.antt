@@ -38,9 +38,6 @@ bounds-work-whole c =
     link_inside c.requires c.loop-next.invariant c.loop-next-test.true
     c.pixels-whole.ensures c.list_block-listed.ensures
 
-pub overflow_cast-next : goal.overflow_cast-next
-overflow_cast-next c = omega (arith, c.slice_known-in-loop-next-5-1.given (c.pixels-whole.result + (c.loop-next.next - 1)))
-
 pub loop-next-smaller : goal.loop-next-smaller
 loop-next-smaller c =
     chain_less c.requires c.loop-next.invariant c.loop-next-test.true

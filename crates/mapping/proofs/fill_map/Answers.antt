@@ -9,9 +9,6 @@ use Rattle.mapping.proofs.fill_map.Goals as goal
 pub loop-i-init : goal.loop-i-init
 loop-i-init c = painted_none (paintable c.requires) c.side-w.ensures
 
-pub overflow_cast-levels : goal.overflow_cast-levels
-overflow_cast-levels c = omega (arith, c.shared_slice_known-in-loop-i-1.given c.loop-i.i)
-
 pub bounds-labels-i : goal.bounds-labels-i
 bounds-labels-i c = omega (arith, c.requires.labels_too)
 
