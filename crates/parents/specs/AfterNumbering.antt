@@ -5,7 +5,7 @@ use Rattle.std.proofs.lemmas.List.{length-replicate}
 use Rattle.sequences.specs.Over.{length_over}
 use Rattle.quadtree.specs.Blocks.{blocks, paint}
 use Rattle.quadtree.specs.Accepted.{number-zero}
-use Rattle.components.specs.Numbers.{numbers, labels}
+use Rattle.components.specs.Numbers.{numbers}
 use Rattle.links.specs.Relabelled.{labels_room, relabelled, relabelled_paints}
 use Rattle.regions.specs.Promise.{Numbering}
 use Rattle.regions.specs.Callers.{list_accepted, long_enough, labels_at_exit, work_at_exit, regions_at_exit}

@@ -2,7 +2,6 @@ use Rattle.quadtree.specs.Raster.{place}
 use Rattle.squares.specs.BlockByBlock.{painted_none, block_placed, block_fits, same_length as kept}
 use Rattle.mapping.specs.Filling.{paintable, filled_more, label_small, filled_all}
 use mathlib.Core.Path.{◌≡◌}
-use Prim.Native.Nat.{◌-◌}
 use native.Mathlib.Omega.{arith}
 use lib.ListN.{get_or}
 use Rattle.parents.proofs.fill_map.Goals as goal

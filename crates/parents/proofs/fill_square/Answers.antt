@@ -1,5 +1,4 @@
 use Rattle.squares.specs.Filling.{one_filled, rows-done_none, row_fits, rows-done-more, rows-done_all}
-use Prim.Native.Nat.{◌-◌}
 use native.Mathlib.Omega.{arith}
 use Rattle.parents.proofs.fill_square.Goals as goal
 
@@ -19,7 +18,7 @@ pub fill-requires : goal.fill-requires
 fill-requires c = row_fits c.requires.1 c.loop-y.invariant c.loop-y-test.true
 
 pub overflow_add-from : goal.overflow_add-from
-overflow_add-from c = omega (arith, row_fits c.requires.1 c.loop-y.invariant c.loop-y-test.true, c.requires.0, c.good, c.loop-y.invariant.filled.long)
+overflow_add-from c = omega (arith, row_fits c.requires.1 c.loop-y.invariant c.loop-y-test.true, c.requires.0, c.well_formed, c.loop-y.invariant.filled.long)
 
 pub loop-y-preserved : goal.loop-y-preserved
 loop-y-preserved c = rows-done-more c.requires.1 c.loop-y.invariant c.loop-y-test.true c.fill.ensures
