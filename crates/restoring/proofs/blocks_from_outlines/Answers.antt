@@ -1,6 +1,6 @@
 -- The tests stand in the order of the numbers: 1, 8, 18. Past 8 the part of the work list that is needed is lent, and comes back as zeros.
 use mathlib.Core.Path.{◌≡◌, sym, ap, ◌∙◌}
-use mathlib.Core.Bool.{false}
+use mathlib.Core.Bool.{false, not}
 use Prim.Native.Nat.{◌*◌, ◌^◌, ◌≤◌}
 use native.Mathlib.Omega.{arith}
 use lib.ListN.{length, take}
@@ -47,32 +47,32 @@ returns-then-not-counts_fit c =
     let small : c.args.n ≤ 8 = c.if-n-gt8.false in
     let long : let a = c.args in is_too_short a.n (list_of a.codes.now a.levels.now a.colours.now) a.work.now ≡ false = sym c.one_short.ensures ∙ c.if-one_short.false in
     let need : 8 * c.pixels-need.result ≡ 8 * 4 ^ c.args.n = ap (λ k. 8 * k) (c.pixels-need.ensures ∙ pixels_are_power c.args.n (omega (arith, small))) in
-    counts_refused _ _ _ c.args.work.now small long (denied c.counts_fit.ensures c.if-not-counts_fit.true)
+    counts_refused _ _ _ c.args.work.now small long (denied c.counts_fit.ensures (ap not c.if-not-counts_fit.true))
     need c.no_image.ensures.0 c.no_image.ensures.1
 
 pub slice_bounds-restore-end : goal.slice_bounds-restore-end
 slice_bounds-restore-end c =
-    let fits : let a = c.args in CountsFit (given_as a.regions a.cycles a.corner-count (outline_lists a.owners.now a.ends.now a.corners.now a.region-colours.now)) = c.counts_fit.ensures.0 c.if-not-counts_fit.false in
+    let fits : let a = c.args in CountsFit (given_as a.regions a.cycles a.corner_count (outline_lists a.owners.now a.ends.now a.corners.now a.region_colours.now)) = c.counts_fit.ensures.0 c.if-not-counts_fit.false in
     let a = c.args in
     omega (arith, length-take-le a.cycles a.owners.now fits.for_owners)
 
 pub slice_bounds-restore-end-2 : goal.slice_bounds-restore-end-2
 slice_bounds-restore-end-2 c =
-    let fits : let a = c.args in CountsFit (given_as a.regions a.cycles a.corner-count (outline_lists a.owners.now a.ends.now a.corners.now a.region-colours.now)) = c.counts_fit.ensures.0 c.if-not-counts_fit.false in
+    let fits : let a = c.args in CountsFit (given_as a.regions a.cycles a.corner_count (outline_lists a.owners.now a.ends.now a.corners.now a.region_colours.now)) = c.counts_fit.ensures.0 c.if-not-counts_fit.false in
     let a = c.args in
     omega (arith, length-take-le a.cycles a.ends.now fits.for_ends)
 
 pub slice_bounds-restore-end-3 : goal.slice_bounds-restore-end-3
 slice_bounds-restore-end-3 c =
-    let fits : let a = c.args in CountsFit (given_as a.regions a.cycles a.corner-count (outline_lists a.owners.now a.ends.now a.corners.now a.region-colours.now)) = c.counts_fit.ensures.0 c.if-not-counts_fit.false in
+    let fits : let a = c.args in CountsFit (given_as a.regions a.cycles a.corner_count (outline_lists a.owners.now a.ends.now a.corners.now a.region_colours.now)) = c.counts_fit.ensures.0 c.if-not-counts_fit.false in
     let a = c.args in
-    omega (arith, length-take-le a.corner-count a.corners.now fits.for_corners)
+    omega (arith, length-take-le a.corner_count a.corners.now fits.for_corners)
 
 pub slice_bounds-restore-end-4 : goal.slice_bounds-restore-end-4
 slice_bounds-restore-end-4 c =
-    let fits : let a = c.args in CountsFit (given_as a.regions a.cycles a.corner-count (outline_lists a.owners.now a.ends.now a.corners.now a.region-colours.now)) = c.counts_fit.ensures.0 c.if-not-counts_fit.false in
+    let fits : let a = c.args in CountsFit (given_as a.regions a.cycles a.corner_count (outline_lists a.owners.now a.ends.now a.corners.now a.region_colours.now)) = c.counts_fit.ensures.0 c.if-not-counts_fit.false in
     let a = c.args in
-    omega (arith, length-take-le a.regions a.region-colours.now fits.for_colours)
+    omega (arith, length-take-le a.regions a.region_colours.now fits.for_colours)
 
 pub slice_bounds-restore-end-5 : goal.slice_bounds-restore-end-5
 slice_bounds-restore-end-5 c =
@@ -97,10 +97,10 @@ restore-requires c =
     let long : let a = c.args in is_too_short a.n (list_of a.codes.now a.levels.now a.colours.now) a.work.now ≡ false = sym c.one_short.ensures ∙ c.if-one_short.false in
     let enough : let a = c.args in NeedsMet a.n (list_of a.codes.now a.levels.now a.colours.now) a.work.now = needs_met _ _ _ long in
     let need : 8 * c.pixels-need.result ≡ 8 * 4 ^ c.args.n = ap (λ k. 8 * k) (c.pixels-need.ensures ∙ pixels_are_power c.args.n (omega (arith, small))) in
-    let fits : let a = c.args in CountsFit (given_as a.regions a.cycles a.corner-count (outline_lists a.owners.now a.ends.now a.corners.now a.region-colours.now)) = c.counts_fit.ensures.0 c.if-not-counts_fit.false in
+    let fits : let a = c.args in CountsFit (given_as a.regions a.cycles a.corner_count (outline_lists a.owners.now a.ends.now a.corners.now a.region_colours.now)) = c.counts_fit.ensures.0 c.if-not-counts_fit.false in
     let part-long : let w = c.args.work.now in length (take (8 * c.pixels-need.result) w) ≡ 8 * c.pixels-need.result = length-take-le (8 * c.pixels-need.result) c.args.work.now (omega (arith, need, enough.for_work)) in
     record {
-      judgeable = record { small = small c; an_owner_each = owners_as_ends fits; room = part-long ∙ need };
+      judgeable = record { small = small; an_owner_each = owners_as_ends fits; room = part-long ∙ need };
       room = enough.room;
     }
 
@@ -126,5 +126,5 @@ returns c =
     let small : c.args.n ≤ 8 = c.if-n-gt8.false in
     let long : let a = c.args in is_too_short a.n (list_of a.codes.now a.levels.now a.colours.now) a.work.now ≡ false = sym c.one_short.ensures ∙ c.if-one_short.false in
     let need : 8 * c.pixels-need.result ≡ 8 * 4 ^ c.args.n = ap (λ k. 8 * k) (c.pixels-need.ensures ∙ pixels_are_power c.args.n (omega (arith, small))) in
-    let fits : let a = c.args in CountsFit (given_as a.regions a.cycles a.corner-count (outline_lists a.owners.now a.ends.now a.corners.now a.region-colours.now)) = c.counts_fit.ensures.0 c.if-not-counts_fit.false in
+    let fits : let a = c.args in CountsFit (given_as a.regions a.cycles a.corner_count (outline_lists a.owners.now a.ends.now a.corners.now a.region_colours.now)) = c.counts_fit.ensures.0 c.if-not-counts_fit.false in
     restored _ _ _ c.args.work.now small long fits need c.restore.ensures

@@ -1,4 +1,3 @@
-use Prim.Native.Nat.{◌-◌}
 use native.Mathlib.Omega.{arith}
 use Rattle.restoring.specs.Ends.{all_ends, next_end, end_too_low, no_end_left}
 use Rattle.restoring.proofs.judge.ends_rise.Goals as goal
