@@ -23,16 +23,16 @@ returns-then-text-pixels c = eight_printed (omega (arith, c.if-bytes-gt-INPUT_LI
 
 pub slice_bounds-samples-end : goal.slice_bounds-samples-end
 slice_bounds-samples-end c =
-    let inside : let read = c.read-found in read.result.count ≤ length read.new.1.0 =
+    let inside : let read = c.read-found in read.result.count ≤ length read.new.raster =
     samples-inside (omega (arith, c.if-bytes-gt-INPUT_LIMIT.false)) (omega arith) c.read-found.ensures c.if-number-ne0.false in
     inside
 
 pub slice_bounds-draw-end : goal.slice_bounds-draw-end
 slice_bounds-draw-end c =
-    let inside : let read = c.read-found in read.result.count ≤ length read.new.1.0 =
+    let inside : let read = c.read-found in read.result.count ≤ length read.new.raster =
     samples-inside (omega (arith, c.if-bytes-gt-INPUT_LIMIT.false)) (omega arith) c.read-found.ensures c.if-number-ne0.false in
     let c = c.read-found in
-    omega (arith, length-take c.result.count c.new.1.0, inside)
+    omega (arith, length-take c.result.count c.new.raster, inside)
 
 pub draw-count-requires : goal.draw-count-requires
 draw-count-requires c = drawing (omega (arith, c.if-bytes-gt-INPUT_LIMIT.false)) (omega arith) c.read-found.ensures c.if-number-ne0.false c.pixels.ensures (omega (arith, c.if-text-pixels.false))

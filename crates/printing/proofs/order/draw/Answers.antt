@@ -10,7 +10,7 @@ slice_bounds-raster-end c = count-inside c.requires (omega arith) c.from_block_o
 pub slice_bounds-write_picture-end : goal.slice_bounds-write_picture-end
 slice_bounds-write_picture-end c =
     let inside = count-inside c.requires (omega arith) c.from_block_order-done.ensures in
-    omega (arith, length-take c.from_block_order-done.result.count c.from_block_order-done.new.1.1.0, inside)
+    omega (arith, length-take c.from_block_order-done.result.count c.from_block_order-done.new.raster, inside)
 
 pub write_picture-requires-in-BlockOrder : goal.write_picture-requires-in-BlockOrder
 write_picture-requires-in-BlockOrder c = rows_fit c.requires (omega arith) c.from_block_order-done.ensures
