@@ -1,4 +1,3 @@
-use Prim.Native.Nat.{◌-◌}
 use native.Mathlib.Omega.{arith}
 use Rattle.order_check.specs.Along.{begin, all_pass, too_large, number_fits, met_before, is_new_lem}
 use Rattle.order_check.proofs.all_new.Goals as goal

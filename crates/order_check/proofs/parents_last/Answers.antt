@@ -1,4 +1,3 @@
-use Prim.Native.Nat.{◌-◌}
 use native.Mathlib.Omega.{arith}
 use Rattle.order_check.specs.Along.{begin, all_pass, number_of, comes_after, comes_before}
 use Rattle.order_check.proofs.parents_last.Goals as goal
