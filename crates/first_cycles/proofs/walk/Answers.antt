@@ -1,8 +1,7 @@
 use mathlib.Core.Path.{refl}
 use native.Mathlib.Omega.{arith}
-use Rattle.steps.specs.Rule.{Way}
 use Rattle.cycles.specs.Rounds.{start_low}
-use Rattle.first_cycles.specs.Walking.{OneRunMore, at_first, edge_at, one_run_more, ColumnNext, row_done}
+use Rattle.first_cycles.specs.Walking.{at_first, edge_at, one_run_more, row_done}
 use Rattle.first_cycles.proofs.walk.Goals as goal
 
 pub loop-y-init : goal.loop-y-init
