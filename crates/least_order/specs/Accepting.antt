@@ -6,7 +6,6 @@ use mathlib.Core.List.{List}
 use Rattle.sequences.specs.Over.{over}
 use Rattle.quadtree.specs.Blocks.{blocks, paint}
 use Rattle.quadtree.specs.Accepted.{number-zero}
-use Rattle.components.specs.Numbers.{regions}
 use Rattle.regions.specs.Promise.{Numbering}
 use Rattle.regions.specs.Callers.{list_accepted, regions_at_exit, work_is_zero}
 use Rattle.regions.specs.declared.Numbered.{Numbered}

@@ -1,4 +1,3 @@
-use Prim.Native.Nat.{◌-◌}
 use Rattle.least_order.specs.Counts.{counted_none, can_count_one, counted_more, counted_all}
 use Rattle.least_order.proofs.count_children.Goals as goal
 

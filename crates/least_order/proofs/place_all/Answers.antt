@@ -1,4 +1,3 @@
-use Prim.Native.Nat.{◌-◌}
 use Rattle.least_order.specs.Arranged.{arranged_none, can_place, arranged_more, arranged_all}
 use Rattle.least_order.proofs.place_all.Goals as goal
 

@@ -1,6 +1,5 @@
 -- `rise` meets its contract. The loop's invariant: what stands before u on the way up is written, and counted as no longer missing. The
 -- measure is u: parents are smaller.
-use Prim.Native.Nat.{◌-◌}
 use Rattle.least_order.specs.Arranged.{Rises}
 use Rattle.least_order.proofs.rise.Given as goal
 
