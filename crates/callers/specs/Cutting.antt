@@ -15,7 +15,7 @@ use Rattle.surrounding.specs.CuttingOrders.{InsideOut, RightOrder}
 use Rattle.order_check.specs.Promise.{OrderCheck}
 use Rattle.order_check.specs.Callers.{yes_exactly_when_right, falling_numbers_are_right, accepted_only}
 use Rattle.least_order.specs.Promise.{LeastOrdering}
-use Rattle.least_order.specs.Callers.{count_is_regions, order_is_least, order_is_right, accepted_only as given_only}
+use Rattle.least_order.specs.Callers.{count_is_regions, order_is_least, accepted_only as given_only}
 
 -- A call that gave the least order, and a call for the same block list that checked an order and answered r.
 module _ {n : ℕ} {cs ls ks labels₀ work₀ order₀ labels₁ work₁ order₁ : List ℕ} {given : Written}
