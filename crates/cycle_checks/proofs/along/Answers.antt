@@ -15,7 +15,7 @@ straight-requires-in-2 c = edge_with c.in-2.is c.requires
 
 pub straight-requires-in_default : goal.straight-requires-in_default
 straight-requires-in_default c =
-    let south : c.args.d ≡ 3 = omega (arith, c.requires.low, c.in_default.in_default-own.rest) in
+    let south : c.args.d ≡ 3 = omega (arith, c.requires.low) in
     edge_with south c.requires
 
 pub returns-in-0 : goal.returns-in-0
@@ -29,5 +29,5 @@ returns-in-2 c = gone_with c.in-2.is c.straight-in-2.ensures
 
 pub returns-in_default : goal.returns-in_default
 returns-in_default c =
-    let south : c.args.d ≡ 3 = omega (arith, c.requires.low, c.in_default.in_default-own.rest) in
+    let south : c.args.d ≡ 3 = omega (arith, c.requires.low) in
     gone_with south c.straight-in_default.ensures

@@ -12,9 +12,6 @@ use Rattle.retracing.proofs.each_agrees.Goals as goal
 pub loop-k-init : goal.loop-k-init
 loop-k-init c = begin c.requires.0
 
-pub overflow_cast-end : goal.overflow_cast-end
-overflow_cast-end c = omega (arith, c.shared_slice_known-in-loop-k-1.given c.loop-k.k)
-
 pub bounds-owners-k : goal.bounds-owners-k
 bounds-owners-k c = owner-inside c.requires.0 c.loop-k.invariant c.loop-k-test.true
 
@@ -79,7 +76,7 @@ overflow_add-least c =
     let l = c.loop-k in
     let p = get_or a.corners.now l.begin 0 in
     let o = get_or a.owners.now l.k 0 in
-    omega (arith, c.rank-r.ensures, rank_low o (x_of p) (y_of p) (omega (arith, c.shared_slice_known-in-loop-k-2-1.given l.k)))
+    omega (arith, c.rank-r.ensures, rank_low o (x_of p) (y_of p) (omega (arith, c.type_inv.owners l.k)))
 
 pub loop-k-smaller : goal.loop-k-smaller
 loop-k-smaller c = omega (arith, c.loop-k-test.true)

@@ -15,17 +15,11 @@ offset_bounds-owners-k c = omega (arith, c.requires.agree.an_owner_each, c.loop-
 pub bounds-owners-k : goal.bounds-owners-k
 bounds-owners-k c = omega (arith, c.requires.agree.an_owner_each, c.loop-k-test.true)
 
-pub overflow_cast-owner : goal.overflow_cast-owner
-overflow_cast-owner c = omega (arith, c.shared_slice_known-in-loop-k-1.given c.loop-k.k)
-
 pub returns-then-regions-owner : goal.returns-then-regions-owner
 returns-then-regions-owner c = no_such_owner c.requires.agree c.loop-k.invariant c.loop-k-test.true c.if-regions-owner.true
 
 pub shape_of-map-then-regions-owner : goal.shape_of-map-then-regions-owner
 shape_of-map-then-regions-owner c = (returns-then-regions-owner c).long
-
-pub overflow_cast-to : goal.overflow_cast-to
-overflow_cast-to c = omega (arith, c.shared_slice_known-in-loop-k-2-1.given c.loop-k.k)
 
 pub offset_bounds-corners-from : goal.offset_bounds-corners-from
 offset_bounds-corners-from c =

@@ -1,12 +1,8 @@
-use native.Mathlib.Omega.{arith}
 use Rattle.restoring.specs.Ends.{all_ends, next_end, end_too_low, no_end_left}
 use Rattle.restoring.proofs.judge.ends_rise.Goals as goal
 
 pub loop-k-init : goal.loop-k-init
 loop-k-init c = all_ends _ _
-
-pub overflow_cast-end : goal.overflow_cast-end
-overflow_cast-end c = omega (arith, c.shared_slice_known-1.given c.loop-k.k)
 
 pub returns-then-end-from : goal.returns-then-end-from
 returns-then-end-from c = end_too_low c.loop-k.invariant c.loop-k-test.true c.if-end-from.true
