@@ -28,7 +28,7 @@ after_serving-requires c =
     let short : let a = c.args in length (stretch_of a.corners.now a.ends.now a.count (front a.state.outlines).cycle) < 4294967296 =
     let a = c.args in
     let k : ℕ = (front a.state.outlines).cycle in
-    stretch_short a.corners.now a.ends.now a.count k (omega (arith, c.shared_slice_known-2-1.given k)) in
+    stretch_short a.corners.now a.ends.now a.count k (omega (arith, c.type_inv.ends k)) in
     let a = c.args in
     (search rules, search rules, λ more. omega (arith, more, due-is, short))
 

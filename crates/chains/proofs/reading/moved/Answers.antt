@@ -37,5 +37,5 @@ returns-in-2 c = sym (ap (λ d. move d c.args.p) c.in-2.is)
 pub returns-in_default : goal.returns-in_default
 unfolding move
 returns-in_default c =
-    let e : c.args.d ≡ 3 = omega (arith, c.in_default.in_default-own.rest.0.0.1, c.in_default.in_default-own.rest.0.1, c.in_default.in_default-own.rest.1, c.requires.0) in
+    let e : c.args.d ≡ 3 = omega arith in
     sym (ap (λ d. move d c.args.p) e)

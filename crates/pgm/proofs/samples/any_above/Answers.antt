@@ -4,7 +4,7 @@ use Rattle.pgm.proofs.Sampling.{room-of-each, looked-at-greatest, looked-none, l
 use Rattle.pgm.proofs.samples.any_above.Goals as goal
 
 pub returns-then-maxval-greatest : goal.returns-then-maxval-greatest
-returns-then-maxval-greatest c = looked-at-greatest _ _ _ _ (c.if-maxval-greatest.true ∙ c.greatest.ensures) (λ k. omega (arith, c.shared_slice_known-1.given k))
+returns-then-maxval-greatest c = looked-at-greatest _ _ _ _ (c.if-maxval-greatest.true ∙ c.greatest.ensures) (λ k. omega (arith, c.type_inv.bytes k))
 
 pub loop-i-init : goal.loop-i-init
 loop-i-init c = looked-none _ _ _ _
