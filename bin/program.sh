@@ -7,7 +7,7 @@ set -u
 : "${command:?}" "${crate:?}" "${order:?}" "${example:?}" "${larger?}"
 
 home=$(cd "$(dirname "${BASH_SOURCE[0]}")/.." && pwd) || exit 2
-program=$home/target/bin/$crate
+program=$home/crates/$crate/out/$crate
 built=$home/target/$command.built
 # The bytes that the program takes, as its source has them, and the same for people.
 limit=$(sed -n 's/^pub const INPUT_LIMIT: usize = \([0-9]*\);$/\1/p' "$home/crates/printing/src/lib.rt")
@@ -56,7 +56,8 @@ build() {
     say 'building the program: every crate that it uses is proved first, which takes some minutes the first time'
     local log=$home/target/$command.log
     mkdir -p "$home/target"
-    if (cd "$home" && rt check "$crate" </dev/null) 2>&1 | tee "$log" | sed -un "s/^rt: /$command: /p" >&2 &&
+    # rt run also runs it, here on nothing, and says what it does on standard error
+    if (cd "$home/crates/$crate" && rt run </dev/null) 2>&1 >/dev/null | tee "$log" | sed -un "/^rt: running /d; s/^rt: /$command: /p" >&2 &&
         [ "${PIPESTATUS[0]}" -eq 0 ] && [ -x "$program" ]; then
         touch "$built"
     else

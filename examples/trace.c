@@ -2,8 +2,8 @@
    path data; or `refused` and the number. The first cycle of a region is its outer one, with an area above zero; the area of a
    hole is below zero. The exit status is 0, 1 where the picture is refused, and 2 where there is nothing to read.
 
-       rt staticlib exports
-       gcc -O2 -Iinclude -o target/trace examples/trace.c target/staticlib/libexports.a
+       (cd crates/exports && rt lib)
+       gcc -O2 -Iinclude -o target/trace examples/trace.c crates/exports/out/libexports.a
        target/trace samples/clock-256.pgm
 */
 #include "file.h"

@@ -2,8 +2,8 @@
 //! path data; or `refused` and the number. The first cycle of a region is its outer one, with an area above zero; the area of a
 //! hole is below zero. The exit status is 0, 1 where the picture is refused, and 2 where there is nothing to read.
 //!
-//!     rt staticlib exports
-//!     rustc -O --edition 2021 -L target/staticlib -l static=exports -o target/trace examples/trace.rs
+//!     (cd crates/exports && rt lib)
+//!     rustc -O --edition 2021 -L crates/exports/out -l static=exports -o target/trace examples/trace.rs
 //!     target/trace samples/clock-256.pgm
 
 #[path = "../include/nettlestair.rs"]

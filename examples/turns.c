@@ -2,8 +2,8 @@
    out their corners by turns until none is open. It prints one line a turn: its number, the cycle, how many corners it hands out, and each of
    them as x,y; or `refused` and the number. The exit status is 0, 1 where the picture is refused, and 2 where there is nothing to read.
 
-       rt staticlib exports
-       gcc -O2 -Iinclude -o target/turns examples/turns.c target/staticlib/libexports.a
+       (cd crates/exports && rt lib)
+       gcc -O2 -Iinclude -o target/turns examples/turns.c crates/exports/out/libexports.a
        target/turns samples/clock-64.pgm
 */
 #include "file.h"

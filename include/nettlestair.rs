@@ -1,5 +1,5 @@
 //! The functions of libexports.a for Rust, over the C names of `nettlestair.h` beside this file. Take it into a program as a
-//! module and link `target/staticlib/libexports.a` (`rt staticlib exports`); `examples/trace.rs` shows how.
+//! module and link `crates/exports/out/libexports.a` (`rt lib` in crates/exports); `examples/trace.rs` shows how.
 //!
 //! Each function answers the numbers of documents 01 and 02 for bad input of any kind; acceptance is number 0. A refusal is its
 //! number with every count 0, and leaves all lists as they were, but for labels and work list with 19 and 20 and the work list with

@@ -21,7 +21,7 @@ use std::process::ExitCode;
 const HELP: &str = "\
 usage: cargo run --release --offline --manifest-path bench/Cargo.toml [-- MODE]
 
-Times the proved library (target/staticlib/libexports.a) against a plain Rust implementation of the same job.
+Times the proved library (crates/exports/out/libexports.a) against a plain Rust implementation of the same job.
 
   outlines   check, number and trace at n = 8, and how the time of trace grows from n = 4 to n = 8
   rasters    blocks_from_raster and raster_from_blocks at n = 8, and read_pgm of one byte a sample and of two

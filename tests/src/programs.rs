@@ -36,12 +36,12 @@ pub fn run(program: impl AsRef<OsStr>, words: &[impl AsRef<OsStr>]) -> Ran {
 
 /// Builds a C program over the library into a folder, with every warning an error.
 pub fn from_c(source: &str, folder: &Path) -> PathBuf {
-    built("gcc -std=c11 -O2 -Wall -Wextra -Werror -Iinclude", source, &["target/staticlib/libexports.a"], folder)
+    built("gcc -std=c11 -O2 -Wall -Wextra -Werror -Iinclude", source, &["crates/exports/out/libexports.a"], folder)
 }
 
 /// Builds a Rust program over the library into a folder, with every warning an error.
 pub fn from_rust(source: &str, folder: &Path) -> PathBuf {
-    built("rustc -O --edition 2021 -D warnings -L target/staticlib -l static=exports", source, &[], folder)
+    built("rustc -O --edition 2021 -D warnings -L crates/exports/out -l static=exports", source, &[], folder)
 }
 
 fn built(command: &str, source: &str, libraries: &[&str], folder: &Path) -> PathBuf {
