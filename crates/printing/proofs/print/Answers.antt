@@ -1,5 +1,4 @@
--- Each test leads to the answer that the definition has for it; past the tests the picture has at most 4,096 pixels. `at` is where the
--- number of pixels is known.
+-- Each test leads to the answer that the definition has for it; past the tests the picture has at most 4,096 pixels.
 use Prim.Native.Nat.{◌≤◌}
 use native.Mathlib.Omega.{arith}
 use lib.ListN.{length, length-take}
@@ -22,17 +21,13 @@ pub returns-then-text-pixels : goal.returns-then-text-pixels
 returns-then-text-pixels c = eight_printed (omega (arith, c.if-bytes-gt-INPUT_LIMIT.false)) (omega arith) c.read-found.ensures c.if-number-ne0.false c.pixels.ensures (omega (arith, c.if-text-pixels.true))
 
 pub slice_bounds-samples-end : goal.slice_bounds-samples-end
-slice_bounds-samples-end c =
-    let inside : let read = c.read-found in read.result.count ≤ length read.new.raster =
-    samples-inside (omega (arith, c.if-bytes-gt-INPUT_LIMIT.false)) (omega arith) c.read-found.ensures c.if-number-ne0.false in
-    inside
+slice_bounds-samples-end c = samples-inside (omega (arith, c.if-bytes-gt-INPUT_LIMIT.false)) (omega arith) c.read-found.ensures c.if-number-ne0.false
 
 pub slice_bounds-draw-end : goal.slice_bounds-draw-end
 slice_bounds-draw-end c =
-    let inside : let read = c.read-found in read.result.count ≤ length read.new.raster =
-    samples-inside (omega (arith, c.if-bytes-gt-INPUT_LIMIT.false)) (omega arith) c.read-found.ensures c.if-number-ne0.false in
-    let c = c.read-found in
-    omega (arith, length-take c.result.count c.new.raster, inside)
+    let read = c.read-found in
+    let inside : read.result.count ≤ length read.new.raster = samples-inside (omega (arith, c.if-bytes-gt-INPUT_LIMIT.false)) (omega arith) read.ensures c.if-number-ne0.false in
+    omega (arith, length-take read.result.count read.new.raster, inside)
 
 pub draw-count-requires : goal.draw-count-requires
 draw-count-requires c = drawing (omega (arith, c.if-bytes-gt-INPUT_LIMIT.false)) (omega arith) c.read-found.ensures c.if-number-ne0.false c.pixels.ensures (omega (arith, c.if-text-pixels.false))

@@ -13,33 +13,35 @@ use Rattle.serving.proofs.after_serving.Goals as goal
 
 pub returns-then-due-le16 : goal.returns-then-due-le16
 returns-then-due-le16 c =
-    let behind-long : length (let a = c.args in take (a.size - 1) (drop 1 a.outlines)) ≡ c.args.size - 1 =
+    let others : List OpenOutline = take (c.args.size - 1) (drop 1 c.args.outlines) in
+    let behind-long : length others ≡ c.args.size - 1 =
     length-take-le (c.args.size - 1) (drop 1 c.args.outlines) (omega (arith, c.requires, c.well_formed.0, length-drop 1 c.args.outlines)) in
-    let next_is : let a = c.args in c.with_last-next.result ≡ in_eight ((let a = c.args in take (a.size - 1) (drop 1 a.outlines)) ++ back_of a.due (front a.outlines) ∷ []) =
+    let next_is : c.with_last-next.result ≡ in_eight (others ++ back_of c.args.due (front c.args.outlines) ∷ []) =
     let moved = ap (take (c.args.size - 1)) c.moved_up.ensures
     ∙ take-append-le (c.args.size - 1) (drop 1 c.args.outlines) (unused ∷ []) (omega (arith, c.requires, c.well_formed.0, length-drop 1 c.args.outlines)) in
     c.with_last-next.ensures ∙ ap₂ (λ (l : List OpenOutline) (o : OpenOutline). in_eight (l ++ o ∷ [])) moved c.back.ensures in
     let o : OpenOutline = front c.args.outlines in
-    let next = next_is ∙ ap (λ (x : OpenOutline). in_eight ((let a = c.args in take (a.size - 1) (drop 1 a.outlines)) ++ x ∷ [])) (back_none c.args.due o c.if-due-le16.true) in
+    let next = next_is ∙ ap (λ (x : OpenOutline). in_eight (others ++ x ∷ [])) (back_none c.args.due o c.if-due-le16.true) in
     record {
-      next = holds_queue (let a = c.args in take (a.size - 1) (drop 1 a.outlines)) (next ∙ unused-behind (let a = c.args in take (a.size - 1) (drop 1 a.outlines)) (omega (arith, c.requires, behind-long))) (sym behind-long)
-          ∙ ap state_of (sym (closes c.args.due o (let a = c.args in take (a.size - 1) (drop 1 a.outlines)) c.if-due-le16.true));
+      next = holds_queue others (next ∙ unused-behind others (omega (arith, c.requires, behind-long))) (sym behind-long)
+          ∙ ap state_of (sym (closes c.args.due o others c.if-due-le16.true));
       eight = omega (arith, c.well_formed.0);
     }
 
 pub returns : goal.returns
 returns c =
-    let behind-long : length (let a = c.args in take (a.size - 1) (drop 1 a.outlines)) ≡ c.args.size - 1 =
+    let others : List OpenOutline = take (c.args.size - 1) (drop 1 c.args.outlines) in
+    let behind-long : length others ≡ c.args.size - 1 =
     length-take-le (c.args.size - 1) (drop 1 c.args.outlines) (omega (arith, c.requires, c.well_formed.0, length-drop 1 c.args.outlines)) in
-    let next_is : let a = c.args in c.with_last-next.result ≡ in_eight ((let a = c.args in take (a.size - 1) (drop 1 a.outlines)) ++ back_of a.due (front a.outlines) ∷ []) =
+    let next_is : c.with_last-next.result ≡ in_eight (others ++ back_of c.args.due (front c.args.outlines) ∷ []) =
     let moved = ap (take (c.args.size - 1)) c.moved_up.ensures
     ∙ take-append-le (c.args.size - 1) (drop 1 c.args.outlines) (unused ∷ []) (omega (arith, c.requires, c.well_formed.0, length-drop 1 c.args.outlines)) in
     c.with_last-next.ensures ∙ ap₂ (λ (l : List OpenOutline) (o : OpenOutline). in_eight (l ++ o ∷ [])) moved c.back.ensures in
     let o : OpenOutline = front c.args.outlines in
     let back : OpenOutline = record { cycle = o.cycle; handed = o.handed + 16 } in
-    let next = next_is ∙ ap (λ (x : OpenOutline). in_eight ((let a = c.args in take (a.size - 1) (drop 1 a.outlines)) ++ x ∷ [])) (back_more c.args.due o c.if-due-le16.false) in
+    let next = next_is ∙ ap (λ (x : OpenOutline). in_eight (others ++ x ∷ [])) (back_more c.args.due o c.if-due-le16.false) in
     record {
-      next = holds_queue ((let a = c.args in take (a.size - 1) (drop 1 a.outlines)) ++ back ∷ []) next (omega (arith, c.requires, behind-long, length-append (let a = c.args in take (a.size - 1) (drop 1 a.outlines)) (back ∷ [])))
-          ∙ ap state_of (sym (to_the_back c.args.due o (let a = c.args in take (a.size - 1) (drop 1 a.outlines)) c.if-due-le16.false));
+      next = holds_queue (others ++ back ∷ []) next (omega (arith, c.requires, behind-long, length-append others (back ∷ [])))
+          ∙ ap state_of (sym (to_the_back c.args.due o others c.if-due-le16.false));
       eight = omega (arith, c.well_formed.0);
     }

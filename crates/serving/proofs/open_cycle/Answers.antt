@@ -16,23 +16,20 @@ returns-then-count-cycle c = let a = c.args in refuses a.state a.cycle a.count 2
 pub returns-then-is_open : goal.returns-then-is_open
 unfolding queue_of
 returns-then-is_open c =
-    let looked : let a = c.args in is_open a.cycle (queue_of a.state) ≡ c.is_open.result =
     let a = c.args in
+    let looked : is_open a.cycle (queue_of a.state) ≡ c.is_open.result =
     ap (λ j. is_open a.cycle (take j a.state.outlines)) (sym c.open_count-size.ensures) ∙ sym c.is_open.ensures.found in
-    let a = c.args in
     refuses a.state a.cycle a.count 22
     (already_open (queue_of a.state) a.cycle a.count c.if-count-cycle.false (looked ∙ c.if-is_open.true))
 
 pub returns-then-size-ge8 : goal.returns-then-size-ge8
 unfolding queue_of
 returns-then-size-ge8 c =
-    let looked : let a = c.args in is_open a.cycle (queue_of a.state) ≡ c.is_open.result =
     let a = c.args in
+    let looked : is_open a.cycle (queue_of a.state) ≡ c.is_open.result =
     ap (λ j. is_open a.cycle (take j a.state.outlines)) (sym c.open_count-size.ensures) ∙ sym c.is_open.ensures.found in
-    let sized : length (queue_of c.args.state) ≡ c.open_count-size.result =
-    let a = c.args in
+    let sized : length (queue_of a.state) ≡ c.open_count-size.result =
     omega (arith, c.open_count-size.ensures, c.is_open.ensures.eight, length-take (min 8 a.state.length) a.state.outlines) in
-    let a = c.args in
     refuses a.state a.cycle a.count 23
     (eight_open (queue_of a.state) a.cycle a.count c.if-count-cycle.false (looked ∙ c.if-is_open.false)
     (omega (arith, sized, c.if-size-ge8.true)))
@@ -40,13 +37,11 @@ returns-then-size-ge8 c =
 pub returns : goal.returns
 unfolding queue_of joined
 returns c =
-    let looked : let a = c.args in is_open a.cycle (queue_of a.state) ≡ c.is_open.result =
     let a = c.args in
+    let looked : is_open a.cycle (queue_of a.state) ≡ c.is_open.result =
     ap (λ j. is_open a.cycle (take j a.state.outlines)) (sym c.open_count-size.ensures) ∙ sym c.is_open.ensures.found in
-    let sized : length (queue_of c.args.state) ≡ c.open_count-size.result =
-    let a = c.args in
+    let sized : length (queue_of a.state) ≡ c.open_count-size.result =
     omega (arith, c.open_count-size.ensures, c.is_open.ensures.eight, length-take (min 8 a.state.length) a.state.outlines) in
-    let a = c.args in
     let q : List OpenOutline = queue_of a.state in
     let new : OpenOutline = record { cycle = a.cycle; handed = 0 } in
     let kept = c.with_last.ensures ∙ ap (λ j. in_eight (take j a.state.outlines ++ new ∷ [])) c.open_count-size.ensures in

@@ -22,23 +22,20 @@ returns-then-size-eq0 c =
 
 pub after_serving-requires : goal.after_serving-requires
 after_serving-requires c =
-    let due-is : let a = c.args in c.still_due-due.result ≡ length (stretch_of a.corners.now a.ends.now a.count (front a.state.outlines).cycle) - (front a.state.outlines).handed =
     let a = c.args in
+    let due-is : c.still_due-due.result ≡ length (stretch_of a.corners.now a.ends.now a.count (front a.state.outlines).cycle) - (front a.state.outlines).handed =
     c.still_due-due.ensures ∙ ap (λ (l : List ℕ). length l - (front a.state.outlines).handed) c.cycle-stretch.ensures.corners_are in
-    let short : let a = c.args in length (stretch_of a.corners.now a.ends.now a.count (front a.state.outlines).cycle) < 4294967296 =
-    let a = c.args in
+    let short : length (stretch_of a.corners.now a.ends.now a.count (front a.state.outlines).cycle) < 4294967296 =
     let k : ℕ = (front a.state.outlines).cycle in
     stretch_short a.corners.now a.ends.now a.count k (omega (arith, c.type_inv.ends k)) in
-    let a = c.args in
     (search rules, search rules, λ more. omega (arith, more, due-is, short))
 
 pub returns : goal.returns
 unfolding queue_of due_of corners_handed_out stretch_in
 returns c =
-    let due-is : let a = c.args in c.still_due-due.result ≡ length (stretch_of a.corners.now a.ends.now a.count (front a.state.outlines).cycle) - (front a.state.outlines).handed =
     let a = c.args in
+    let due-is : c.still_due-due.result ≡ length (stretch_of a.corners.now a.ends.now a.count (front a.state.outlines).cycle) - (front a.state.outlines).handed =
     c.still_due-due.ensures ∙ ap (λ (l : List ℕ). length l - (front a.state.outlines).handed) c.cycle-stretch.ensures.corners_are in
-    let a = c.args in
     let o : OpenOutline = front a.state.outlines in
     let l = lists a.corners.now a.ends.now a.count in
     let behind : List OpenOutline = take (c.open_count-size.result - 1) (drop 1 a.state.outlines) in
