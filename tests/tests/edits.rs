@@ -1,15 +1,17 @@
-//! Each edit was refused because a fact fails of the very function or definition that it edits. The logs are those that `rt ci` leaves
-//! of must-fail edits and tests/wrong.sh of wrong programs; `./test` sees to it that each edit has one.
+//! Each edit was refused because a fact fails of the very function or definition that it edits. What failed first is read from what rt
+//! says: target/ci.log has it of must-fail edits, as `./test` leaves it, and target/wrong.log of wrong programs, as tests/wrong.sh does.
+//! `./test` sees to it that each edit that was tried is read.
 
 use std::fs;
 use std::path::PathBuf;
 use tests::programs::repository;
 
-/// The two folders of edits that a crate may have.
-const FOLDERS: [&str; 2] = ["must-fail", "wrong"];
+/// The two folders of edits that a crate may have, and the log of each.
+const FOLDERS: [(&str, &str); 2] = [("must-fail", "ci.log"), ("wrong", "wrong.log")];
 
 struct Edit {
     folder: &'static str,
+    log: &'static str,
     library: String,
     label: String,
 }
@@ -31,10 +33,10 @@ fn entries(folder: PathBuf) -> Vec<String> {
 fn all_edits() -> Vec<Edit> {
     let mut edits = Vec::new();
     for library in entries(repository("crates")) {
-        for folder in FOLDERS {
+        for (folder, log) in FOLDERS {
             let names = entries(repository("crates").join(&library).join(folder));
             let labels = names.iter().filter_map(|name| name.strip_suffix(".edit"));
-            edits.extend(labels.map(|label| Edit { folder, library: library.clone(), label: label.to_string() }));
+            edits.extend(labels.map(|label| Edit { folder, log, library: library.clone(), label: label.to_string() }));
         }
     }
     edits
@@ -79,15 +81,14 @@ fn function_at(source: &str, old: &str) -> Option<Function> {
 
 /// The line is about a file, at the line number that is handed back.
 fn line_in(said: &str, file: &str) -> Option<usize> {
-    let (_, rest) = said.split_once(&format!("/{file}:"))?;
+    let (_, rest) = said.split_once(&format!("{file}:"))?;
     rest.split(':').next()?.parse().ok()
 }
 
-/// A line of a log that says that a fact fails of what was edited: an error in the proof of the edited function, a note at a line of
-/// a function that has no proof file, or, where a definition was edited, an error in any file of the crate's logic. An error that
-/// another one brought about is none.
+/// What rt says failed first is a fact of what was edited: an error in the proof of the edited function, a note at a line of a function
+/// that has no proof file, or, where a definition was edited, an error in any file of the crate's logic.
 fn is_own(said: &str, place: &Place, source: &str) -> bool {
-    let error = said.contains(": error: ") && !said.contains("was not admitted");
+    let error = said.contains(": error: ");
     let logic = error && said.contains(".antt:");
     let Some(file) = place.file.strip_prefix("src/") else { return logic };
     let Some(function) = function_at(source, &place.old) else { return logic };
@@ -95,26 +96,37 @@ fn is_own(said: &str, place: &Place, source: &str) -> bool {
         "lib.rt" | "main.rt" => String::new(),
         _ => file.replace(".rt", "/"),
     };
-    let in_proof = error && said.contains(&format!("/proofs/{module}{}/Proof.antt:", function.name));
+    let in_proof = error && said.starts_with(&format!("./proofs/{module}{}/", function.name));
     let unproved = said.starts_with("note: ") && said.contains("it is not proved that");
     let at_line = line_in(said, &place.file).is_some_and(|line| function.first <= line && line <= function.last);
     in_proof || unproved && at_line
 }
 
-/// Where an error says that a need or a name is missing, the proof no longer fits the edited code, and the edit shows nothing.
-fn shows_nothing(said: &str) -> bool {
-    ["is not in scope", "has no `Need-", "that can be named from here", "has no field `"]
-        .iter()
-        .any(|what| said.contains(what))
+/// What rt says of an edit, if it was tried.
+fn said_of<'a>(log: &'a str, library: &str, label: &str) -> Option<&'a str> {
+    let head = format!("rt: must-fail {library}/{label}.edit: ");
+    log.lines().find_map(|line| line.strip_prefix(&head))
 }
 
-/// What is wrong with the log of an edit, if anything.
-fn fault(log: &str, places: &[Place], source_of: impl Fn(&str) -> String) -> Option<&'static str> {
-    let own = |said: &&str| places.iter().any(|place| is_own(said, place, &source_of(&place.file)));
-    match log.lines().find(own) {
-        None => Some("no fact fails of what it edits"),
-        Some(said) => shows_nothing(said).then_some("the proof does not fit the edited code"),
+/// Of a wrong definition rt says that a theorem on which others rest is refused, as a bad edit: no contract was tried.
+fn refused_theorem(said: &str) -> Option<&str> {
+    let first = said.strip_prefix("BAD EDIT: the prover cannot read the edited text, so no contract was tried: ")?;
+    let tells = ["which was rejected, ", "which was not admitted, "].iter().any(|what| first.contains(what));
+    tells.then_some(first)
+}
+
+/// What is wrong with the refusal of an edit, if anything.
+fn fault(said: &str, places: &[Place], source_of: impl Fn(&str) -> String) -> Option<&'static str> {
+    if refused_theorem(said).is_some() && places.iter().all(|place| place.file.starts_with("specs/")) {
+        return None;
     }
+    let Some(rest) = said.strip_prefix("refused, as it must be") else { return Some("it is not refused") };
+    if rest.starts_with(" (only because a proof file names") {
+        return Some("the proof does not fit the edited code");
+    }
+    let first = rest.split_once(": ").map_or("", |(_, first)| first);
+    let own = places.iter().any(|place| is_own(first, place, &source_of(&place.file)));
+    (!own).then_some("no fact fails first of what it edits")
 }
 
 #[test]
@@ -122,14 +134,14 @@ fn each_edit_falls_where_it_edits() {
     let mut count = 0;
     let mut faults = Vec::new();
     for edit in all_edits() {
-        let Edit { folder, library, label } = &edit;
+        let Edit { folder, log, library, label } = &edit;
         let home = repository("crates").join(library);
         let text = fs::read_to_string(home.join(folder).join(format!("{label}.edit"))).expect("an edit");
-        let log = repository("target").join(folder).join(library).join(label).join(".log");
-        let Ok(log) = fs::read_to_string(log) else { continue };
+        let Ok(log) = fs::read_to_string(repository("target").join(log)) else { continue };
+        let Some(said) = said_of(&log, library, label) else { continue };
         let source_of = |file: &str| fs::read_to_string(home.join(file)).expect("an edited file");
-        if let Some(fault) = fault(&log, &places(&text), source_of) {
-            faults.push(format!("{library}/{folder}/{label}: {fault}"));
+        if let Some(fault) = fault(said, &places(&text), source_of) {
+            faults.push(format!("{library}/{folder}/{label}: {fault}: {said}"));
         }
         count += 1;
     }
@@ -137,25 +149,38 @@ fn each_edit_falls_where_it_edits() {
     println!("edits: {count} cases");
 }
 
-/// The test can fail: an error of another function, a missing name and an empty log are seen.
+/// The test can fail: an error of another function, a missing name and an edit that is not refused are seen.
 #[test]
 fn what_shows_nothing_is_seen() {
     let source = "fn one() {\n    a\n}\n\npub fn two() {\n    b\n}\n";
     let place = |file: &str, old: &str| [Place { file: file.to_string(), old: old.to_string() }];
-    let faulty = |log: &str, place: &[Place]| fault(log, place, |_| source.to_string()).is_some();
+    let faulty = |said: &str, place: &[Place]| fault(said, place, |_| source.to_string()).is_some();
+    let refused = |first: &str| format!("refused, as it must be: {first}");
     let two = place("src/lib.rt", "b");
-    assert!(!faulty("x/proofs/two/Proof.antt:3:1: error: `returns`: the two types differ", &two));
-    assert!(!faulty("note: x/src/lib.rt:6:1: it is not proved that what the function ensures holds", &two));
-    assert!(!faulty("x/proofs/m/one/Proof.antt:3:1: error: `returns`: no", &place("src/m.rt", "a")));
-    assert!(!faulty("x/specs/Roots.antt:3:1: error: `root`: no", &place("specs/Roots.antt", "b")));
-    for log in [
-        "",
-        "x/proofs/one/Proof.antt:3:1: error: `returns`: the two types differ",
-        "note: x/src/lib.rt:2:1: it is not proved that what the function ensures holds",
-        "x/proofs/two/Proof.antt:3:1: error: `needs` is not in scope",
-        "x/proofs/two/Proof.antt:9:1: error: `two-spec`: `close` was not admitted, so this cannot be checked",
-        "x/specs/Roots.antt:3:1: error: `root`: no",
+    let definition = place("specs/Roots.antt", "b");
+    let unproved = "note: src/lib.rt:6:1: it is not proved that what the function ensures holds";
+    let limit =
+        " (only by a limit of the prover, which gave no verdict): ./proofs/two/Answers.antt:3:1: error: `returns`: no";
+    let rejected = "BAD EDIT: the prover cannot read the edited text, so no contract was tried: \
+        ./specs/Roots.antt:3:1: error: 2 declarations that depend on `root`, which was rejected, were not checked: a, b";
+    assert!(!faulty(&refused("./proofs/two/Answers.antt:3:1: error: `returns`: the two types differ"), &two));
+    assert!(!faulty(&refused(unproved), &two));
+    assert!(!faulty(&format!("refused, as it must be{limit}"), &two));
+    assert!(!faulty(&refused("./proofs/m/one/Answers.antt:3:1: error: `returns`: no"), &place("src/m.rt", "a")));
+    assert!(!faulty(&refused("./specs/Roots.antt:3:1: error: `root`: no"), &definition));
+    assert!(!faulty(rejected, &definition));
+    for said in [
+        "refused, as it must be",
+        "NOT REFUSED: the crate is still proved with this edit",
+        "BAD EDIT: an 'old:' text is in src/lib.rt 2 times, and not once",
+        "refused, as it must be (only because a proof file names what the edit took away): ./proofs/two/Answers.antt:3:1: error: no",
+        rejected,
+        &refused("./proofs/one/Answers.antt:3:1: error: `returns`: the two types differ"),
+        &refused("note: src/lib.rt:2:1: it is not proved that what the function ensures holds"),
+        &refused("./specs/Roots.antt:3:1: error: `root`: no"),
     ] {
-        assert!(faulty(log, &two), "{log}");
+        assert!(faulty(said, &two), "{said}");
     }
+    let unread = "BAD EDIT: the prover cannot read the edited text, so no contract was tried: ./specs/Roots.antt:3:1: error: expected `=`";
+    assert!(faulty(unread, &definition));
 }

@@ -1,6 +1,5 @@
 //! The programs `outlines` and `outlines-stored` as a user runs them: a file on standard input, the printed text on
-//! standard output. The expected texts are worked out by hand from document 01. `rt check outlines` and `rt check
-//! outlines_stored` build the programs.
+//! standard output. The expected texts are worked out by hand from document 01. The commands build the programs.
 
 use std::collections::BTreeSet;
 use std::fs::{self, File};
@@ -38,7 +37,8 @@ impl Program {
 
     /// The program itself.
     fn built(&self) -> PathBuf {
-        repository("target/bin").join(self.name.replace('-', "_"))
+        let name = self.name.replace('-', "_");
+        repository("crates").join(&name).join("out").join(name)
     }
 
     /// What the program prints for these bytes.
@@ -48,7 +48,7 @@ impl Program {
             .stdin(Stdio::piped())
             .stdout(Stdio::piped())
             .spawn()
-            .unwrap_or_else(|fault| panic!("{}: {fault} (rt check builds it)", program.display()));
+            .unwrap_or_else(|fault| panic!("{}: {fault} (its command builds it)", program.display()));
         let mut stdin = child.stdin.take().expect("standard input");
         let bytes = input.to_vec();
         // The program reads at most 16,385 bytes, so that the rest of a longer input has no reader.
