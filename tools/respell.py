@@ -11,13 +11,12 @@ import collections
 import glob
 import os
 import re
+import subprocess
 import sys
 
-KIT = "/opt/rattle/rattle"
 LIBRARY = ["core", "std", "std_alloc", "std_collections", "std_heap", "std_io", "io", "logic", "antt", "libc", "os"]
 WORD = re.compile(r"[^\s(){}\[\],;.:=λ→↦|\"«»`]+")
 FUNCTION = re.compile(r"^\s*(?:pub )?(?:abbrev|unfoldable) (?:pub )?([^\s(){}\[\],;.:=λ→↦|\"«»`]+) :(?: |$)", re.M)
-CAMEL = re.compile(r"[a-z0-9₀-₉'](?=[A-Z])")
 
 
 def read(path):
@@ -31,9 +30,10 @@ def write(path, text):
 
 
 def library_words():
+    kit = os.path.dirname(subprocess.run(["rt", "doc"], capture_output=True, text=True, check=True).stdout.strip())
     words = set()
     for part in LIBRARY:
-        for path in glob.glob(f"{KIT}/{part}/**/*.antt", recursive=True):
+        for path in glob.glob(f"{kit}/rattle/{part}/**/*.antt", recursive=True):
             words.update(WORD.findall(read(path)))
     return words
 
