@@ -86,11 +86,14 @@ fn line_in(said: &str, file: &str) -> Option<usize> {
 }
 
 /// What rt says failed first is a fact of what was edited: an error in the proof of the edited function, a note at a line of a function
-/// that has no proof file, or, where a definition was edited, an error in any file of the crate's logic.
+/// that has no proof file, or, where a definition was edited, an error of another declaration in any file of the crate's logic.
 fn is_own(said: &str, place: &Place, source: &str) -> bool {
     let error = said.contains(": error: ");
     let logic = error && said.contains(".antt:");
-    let Some(file) = place.file.strip_prefix("src/") else { return logic };
+    let Some(file) = place.file.strip_prefix("src/") else {
+        let edited = definition_at(source, &place.old);
+        return logic && (edited.is_none() || edited != declaration_of(said));
+    };
     let Some(function) = function_at(source, &place.old) else { return logic };
     let module = match file {
         "lib.rt" | "main.rt" => String::new(),
@@ -100,6 +103,43 @@ fn is_own(said: &str, place: &Place, source: &str) -> bool {
     let unproved = said.starts_with("note: ") && said.contains("it is not proved that");
     let at_line = line_in(said, &place.file).is_some_and(|line| function.first <= line && line <= function.last);
     in_proof || unproved && at_line
+}
+
+/// The definition of a text of specs/ whose value a text is of: the last one declared above, or the record that has it in a field; none
+/// where the text is of a statement.
+fn definition_at<'a>(source: &'a str, old: &str) -> Option<&'a str> {
+    let at = source.find(old)?;
+    let end = source[at..].find('\n').map_or(source.len(), |length| at + length);
+    let (mut record, mut last) = (None, None);
+    for line in source[..end].lines() {
+        let is_inner = line.starts_with(' ');
+        let mut head = line.trim_start();
+        let mut is_record = false;
+        for word in ["unfoldable ", "abbrev ", "pub ", "record ", "data "] {
+            if let Some(rest) = head.strip_prefix(word) {
+                is_record |= word == "record " || word == "data ";
+                head = rest;
+            }
+        }
+        let declares =
+            head.split_once(" : ").is_some_and(|(before, _)| !before.contains('=') && !before.starts_with("--"));
+        last = last.map(|(name, _)| (name, false));
+        if !declares && !is_record && !head.starts_with("module ") {
+            continue;
+        }
+        last = head.split(' ').next().filter(|name| *name != "module").map(|name| (name, true));
+        if !is_inner {
+            record = last.filter(|_| is_record).map(|(name, _)| name);
+        }
+    }
+    record.or_else(|| last.filter(|(_, here)| !here).map(|(name, _)| name))
+}
+
+/// The declaration of which an error says that it is refused, or that others rest on it.
+fn declaration_of(said: &str) -> Option<&str> {
+    let (_, error) = said.split_once(": error: ")?;
+    let error = error.split_once(" depend").map_or(error, |(_, on)| on.split_once("on ").map_or(on, |(_, name)| name));
+    error.strip_prefix('`')?.split('`').next()
 }
 
 /// What rt says of an edit, if it was tried.
@@ -117,14 +157,15 @@ fn refused_theorem(said: &str) -> Option<&str> {
 
 /// What is wrong with the refusal of an edit, if anything.
 fn fault(said: &str, places: &[Place], source_of: impl Fn(&str) -> String) -> Option<&'static str> {
-    if refused_theorem(said).is_some() && places.iter().all(|place| place.file.starts_with("specs/")) {
-        return None;
-    }
-    let Some(rest) = said.strip_prefix("refused, as it must be") else { return Some("it is not refused") };
-    if rest.starts_with(" (only because a proof file names") {
-        return Some("the proof does not fit the edited code");
-    }
-    let first = rest.split_once(": ").map_or("", |(_, first)| first);
+    let first = if places.iter().all(|place| place.file.starts_with("specs/")) { refused_theorem(said) } else { None };
+    let first = match (first, said.strip_prefix("refused, as it must be")) {
+        (Some(first), _) => first,
+        (None, None) => return Some("it is not refused"),
+        (None, Some(rest)) if rest.starts_with(" (only because a proof file names") => {
+            return Some("the proof does not fit the edited code");
+        }
+        (None, Some(rest)) => rest.split_once(": ").map_or("", |(_, first)| first),
+    };
     let own = places.iter().any(|place| is_own(first, place, &source_of(&place.file)));
     (!own).then_some("no fact fails first of what it edits")
 }
@@ -157,7 +198,7 @@ fn what_shows_nothing_is_seen() {
     let faulty = |said: &str, place: &[Place]| fault(said, place, |_| source.to_string()).is_some();
     let refused = |first: &str| format!("refused, as it must be: {first}");
     let two = place("src/lib.rt", "b");
-    let definition = place("specs/Roots.antt", "b");
+    let definition = place("specs/Roots.antt", "= b");
     let unproved = "note: src/lib.rt:6:1: it is not proved that what the function ensures holds";
     let limit =
         " (only by a limit of the prover, which gave no verdict): ./proofs/two/Answers.antt:3:1: error: `returns`: no";
@@ -169,6 +210,13 @@ fn what_shows_nothing_is_seen() {
     assert!(!faulty(&refused("./proofs/m/one/Answers.antt:3:1: error: `returns`: no"), &place("src/m.rt", "a")));
     assert!(!faulty(&refused("./specs/Roots.antt:3:1: error: `root`: no"), &definition));
     assert!(!faulty(rejected, &definition));
+    // where the edited definition itself is refused, the edit does not read
+    let text = "-- a root : of\npub root : List ℕ → ℕ\nroot p = b\n\npub record Held : Type 0 where\n  pub one : c\n";
+    for (old, name) in [("→ ℕ", None), ("= b", Some("root")), (": c", Some("Held"))] {
+        assert_eq!(definition_at(text, old), name);
+    }
+    assert_eq!(declaration_of(rejected), Some("root"));
+    assert!(fault(rejected, &definition, |_| text.to_string()).is_some());
     for said in [
         "refused, as it must be",
         "NOT REFUSED: the crate is still proved with this edit",
