@@ -1,4 +1,6 @@
--- The answers of writers, and the number of a raster.
+-- The answers of writers, the causes of a refusal, and the number of a raster.
 pub mod Put
+pub mod Causes
+pub mod Results
 pub mod Answers
 pub mod Rasters

@@ -1,0 +1,30 @@
+-- The causes of a refusal and their numbers.
+use Rattle.std.specs.Prelude.{ℕ}
+use Rattle.answers.specs.declared.cause.Cause.{Cause}
+
+-- The number of each cause (docs/ANSWERS.md).
+unfoldable pub number_of : Cause → ℕ
+number_of Cause.SideTooLarge = 1
+number_of Cause.LengthsDiffer = 2
+number_of Cause.LevelAboveSide = 3
+number_of Cause.CodeNotNext = 4
+number_of Cause.CodeNotAligned = 5
+number_of Cause.PixelsMissing = 6
+number_of Cause.SiblingsAlike = 7
+number_of Cause.ListTooShort = 8
+number_of Cause.RasterLengthWrong = 9
+number_of Cause.HeaderMalformed = 10
+number_of Cause.SidesUnfit = 11
+number_of Cause.MaxvalOutOfRange = 12
+number_of Cause.BytesNotSamples = 13
+number_of Cause.SampleAboveMaxval = 14
+number_of Cause.InputTooLong = 15
+number_of Cause.NotCycleForm = 16
+number_of Cause.NotChain = 17
+number_of Cause.NoImage = 18
+number_of Cause.NotEachRegionOnce = 19
+number_of Cause.NotInsideOut = 20
+number_of Cause.OutsideImage = 21
+number_of Cause.NoSuchCycle = 22
+number_of Cause.AlreadyOpen = 23
+number_of Cause.EightOpen = 24
