@@ -25,14 +25,7 @@ fn goes_along(x: bool, p: u32, q: u32) -> bool
 fn all_within(corners: &[u32]) -> bool
     ensures { result ≡ all_inside corners.now }
 {
-    let mut i: usize = 0;
-    while i < corners.len() {
-        if !within(corners[i]) {
-            return false;
-        }
-        i += 1;
-    }
-    true
+    corners.iter().all(|&corner| within(corner))
 }
 
 // The steps go along x and y by turns, and the closing one along y.
@@ -41,12 +34,10 @@ fn turning(corners: &[u32]) -> bool
     ensures { result ≡ steps corners.now }
 {
     let last = corners.len() - 1;
-    let mut i: usize = 0;
-    while i < last {
+    for i in 0..last {
         if !goes_along(i % 2 == 0, corners[i], corners[i + 1]) {
             return false;
         }
-        i += 1;
     }
     last % 2 == 1 && goes_along(false, corners[last], corners[0])
 }
@@ -57,20 +48,8 @@ pub fn cycle_form(corners: &[u32]) -> bool
     ensures { result ≡ cycle_form corners.now }
 {
     let n = corners.len();
-    if n % 2 != 0 {
+    if n % 2 != 0 || n < 4 || 262144 < n || !all_within(corners) {
         return false;
     }
-    if n < 4 {
-        return false;
-    }
-    if 262144 < n {
-        return false;
-    }
-    if !all_within(corners) {
-        return false;
-    }
-    if corners[1] % 512 <= corners[0] % 512 {
-        return false;
-    }
-    turning(corners)
+    corners[0] % 512 < corners[1] % 512 && turning(corners)
 }

@@ -1,27 +1,12 @@
-use Rattle.forms.specs.Scan.{inside_on, inside_off, inside-done}
-use mathlib.Core.Path.{refl, sym, ◌∙◌}
-use Prim.Native.Nat.{◌-◌}
-use native.Mathlib.Omega.{arith}
-use borrow.Author.Rules.{rules}
+-- The definition recurses over the list as a test of each corner does.
+use Rattle.std.proofs.Common.{rules, tests, ◌∙◌}
+use Rattle.std.proofs.lemmas.Iterator.{YieldsList-from_slice}
+use Rattle.std.proofs.lemmas.Iterator.Search.{all_from_yields_List}
+use Rattle.lattice.specs.CycleForm.{inside}
+use Rattle.forms.specs.Scan.{all_inside_is}
 use Rattle.forms.proofs.all_within.Goals as goal
 
-pub loop-i-init : goal.loop-i-init
-loop-i-init c = (search rules, refl)
-
-pub returns-then-not-within : goal.returns-then-not-within
-returns-then-not-within c =
-    let cs = c.args.corners.now in
-    let outside = sym c.within.ensures ∙ c.if-not-within.true in
-    sym (sym c.loop-i.invariant.1 ∙ inside_off cs c.loop-i.i c.loop-i-test.true outside)
-
-pub loop-i-smaller : goal.loop-i-smaller
-loop-i-smaller c = omega arith
-
-pub loop-i-preserved : goal.loop-i-preserved
-loop-i-preserved c =
-    let cs = c.args.corners.now in
-    let inside = sym c.within.ensures ∙ c.if-not-within.false in
-    (omega arith, inside_on cs c.loop-i.i c.loop-i-test.true inside ∙ c.loop-i.invariant.1)
-
 pub returns : goal.returns
-returns c = sym (sym c.loop-i.invariant.1 ∙ inside-done c.args.corners.now c.loop-i.i c.loop-i-test.false)
+returns c =
+    let cs = c.args.corners.now in
+    all_from_yields_List inside _ _ c.all.result c.all.ensures.ran (YieldsList-from_slice cs cc) (λ x b q k. search (rules, tests)) ∙ all_inside_is cs
