@@ -35,6 +35,10 @@ length_of size ends count k = cond (holds size ends count k) (end_of ends k - be
 unfoldable pub stretch_of : List ℕ → List ℕ → ℕ → ℕ → List ℕ
 stretch_of corners ends count k = take (length_of (length corners) ends count k) (drop (start_of (length corners) ends count k) corners)
 
+-- The empty stretch at 0.
+abbrev pub empty : Stretch
+empty = record { start = 0; length = 0 }
+
 -- What is promised of the place.
 pub record Place (corners ends : List ℕ) (count k : ℕ) (answer : Stretch) : Type 0 where
   pub start_is : answer.start ≡ start_of (length corners) ends count k
@@ -100,6 +104,10 @@ place_is {corners} {ends} {count} {k} answer h s l =
       start_is = s ∙ ap (λ (b : Bool). cond b (begin_of ends k) 0) (sym h);
       length_is = l ∙ ap (λ (b : Bool). cond b (end_of ends k - begin_of ends k) 0) (sym h);
     }
+
+-- A place that is as promised lies within the corner list.
+pub place_fits : {corners ends : List ℕ} {count k : ℕ} {place : Stretch} → Place corners ends count k place → place.start + place.length ≤ length corners
+place_fits {corners} {ends} {count} {k} p = omega (arith, p.start_is, p.length_is, stretch_fits (length corners) ends count k)
 
 -- The part at a place that is as promised holds the stretch.
 pub part_at : {corners ends : List ℕ} {count k : ℕ} (place : Stretch) → Place corners ends count k place
