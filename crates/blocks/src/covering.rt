@@ -3,50 +3,45 @@ ghost use Rattle.std.specs.Prelude.{◌≡◌, ◌+◌, ◌≤◌, ◌<◌, ◌^
 ghost use Rattle.quadtree.specs.Blocks.{blocks};
 ghost use Rattle.quadtree.specs.Number.{fault_of, siblings};
 ghost use Rattle.quadtree.specs.Lists.{EqualLengths};
+ghost use Rattle.answers.specs.Results.{said};
 ghost use Rattle.blocks.specs.Covering.{CoverOf};
 ghost use Rattle.blocks.specs.Siblings.{alike_from, stride_at, Covered};
 
-// The cause among 3, 4 and 5 that a block meets where `sum` pixels are covered before it; 0 for none.
-fn block_fault(n: u32, whole: usize, sum: usize, code: u32, level: u32) -> u32
+use answers::Cause;
+
+// The cause among 3, 4 and 5 that a block meets where `sum` pixels are covered before it.
+fn block_fault(n: u32, whole: usize, sum: usize, code: u32, level: u32) -> Result<(), Cause>
     requires { (n ≤ 8) × (whole ≡ 4 ^ n) }
-    ensures { result ≡ fault_of n sum code level }
+    ensures { said result ≡ fault_of n sum code level }
 {
     if n < level {
-        return 3;
+        return Err(Cause::LevelAboveSide);
     }
-    if code as usize != sum {
-        return 4;
-    }
-    if sum == whole {
-        return 4;
+    if code as usize != sum || sum == whole {
+        return Err(Cause::CodeNotNext);
     }
     if location::alignment(code) < level {
-        return 5;
+        return Err(Cause::CodeNotAligned);
     }
-    0
+    Ok(())
 }
 
 // Causes 3, 4 and 5 per block in list order, then 6. Colours do not matter here.
-pub(crate) fn cover(n: u32, codes: &[u32], levels: &[u8]) -> u32
+pub(crate) fn cover(n: u32, codes: &[u32], levels: &[u8]) -> Result<(), Cause>
     requires { (n ≤ 8) × (length codes.now ≡ length levels.now) }
-    ensures { CoverOf n codes.now levels.now result }
+    ensures { CoverOf n codes.now levels.now (said result) }
 {
     let whole = location::pixels(n);
     let mut sum: usize = 0;
-    let mut i: usize = 0;
-    while i < codes.len() {
-        let level = levels[i] as u32;
-        let found = block_fault(n, whole, sum, codes[i], level);
-        if found != 0 {
-            return found;
-        }
+    for i in 0..codes.len() {
+        let level = u32::from(levels[i]);
+        block_fault(n, whole, sum, codes[i], level)?;
         sum += location::pixels(level);
-        i += 1;
     }
     if sum < whole {
-        return 6;
+        return Err(Cause::PixelsMissing);
     }
-    0
+    Ok(())
 }
 
 // Whether the four levels from i on are equal: asked of them as the digits of one number, one test instead of three.

@@ -4,15 +4,18 @@ use mathlib.Core.Path.{sym, ◌∙◌}
 use Rattle.location.specs.TopLevels.{aligned_divides, divides_aligned}
 use Rattle.quadtree.specs.Covering.{fault_above, fault_elsewhere, fault_full, fault_crooked, fault_none}
 use Rattle.blocks.proofs.covering.block_fault.Goals as goal
+use Rattle.blocks.proofs.covering.block_fault.Goals.{then-code-sum-via-then-code-sum, then-code-sum-via-else-code-sum+then-sum-whole}
 
 pub returns-then-n-level : goal.returns-then-n-level
 returns-then-n-level c = sym (fault_above _ _ _ _ c.if-n-level.true)
 
 pub returns-then-code-sum : goal.returns-then-code-sum
-returns-then-code-sum c = sym (fault_elsewhere _ _ _ _ c.if-n-level.false c.if-code-sum.true)
-
-pub returns-then-sum-whole : goal.returns-then-sum-whole
-returns-then-sum-whole c = sym (fault_full _ _ _ _ c.if-n-level.false c.if-code-sum.false (c.if-sum-whole.true ∙ c.requires.1))
+returns-then-code-sum c =
+    let low = c.if-n-level.false in
+    elim c.then-code-sum.branch [
+      | then-code-sum-via-then-code-sum w ↦ sym (fault_elsewhere _ _ _ _ low w.if-code-sum.true)
+      | then-code-sum-via-else-code-sum+then-sum-whole w ↦ sym (fault_full _ _ _ _ low w.if-code-sum.false (w.if-sum-whole.true ∙ c.requires.1))
+    ]
 
 pub returns-then-alignment-level : goal.returns-then-alignment-level
 returns-then-alignment-level c =

@@ -6,7 +6,6 @@ use Rattle.answers.specs.Causes.{number_of}
 use Rattle.answers.proofs.cause.U32FromCause.from.Goals as goal
 
 number_of_place : (cause : Cause) → denote.Enum.Declared.tag_of the_type cause + 1 ≡ number_of cause
-unfolding number_of
 number_of_place Cause.SideTooLarge = refl
 number_of_place Cause.LengthsDiffer = refl
 number_of_place Cause.LevelAboveSide = refl
