@@ -1,18 +1,15 @@
-// One number stored along a stretch of a list.
+// One value stored along a stretch of a list.
 #![tactic(auto)]
 
 ghost use Rattle.std.specs.Prelude.{◌≡◌, ◌+◌, ◌≤◌, length};
 ghost use Rattle.sequences.specs.Fill.{fill};
 
 // Stores v in the s entries from `from` on.
-pub fn fill(list: &mut [u32], from: usize, s: usize, v: u32)
+pub fn fill<T: Copy>(list: &mut [T], from: usize, s: usize, v: T)
     requires { from + s ≤ length list.old }
     ensures { list.new ≡ fill list.old from s v }
 {
-    let end = from + s;
-    let mut i = from;
-    while i < end {
-        list[i] = v;
-        i += 1;
+    for x in list[from..from + s].iter_mut() {
+        *x = v;
     }
 }

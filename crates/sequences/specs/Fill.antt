@@ -1,21 +1,21 @@
 -- One number stored along a stretch of a list.
-use Rattle.std.specs.Prelude.{◌≡◌, refl, length, get_or, replicate}
+use Rattle.std.specs.Prelude.{◌≡◌, refl, length, get_or, replicate, take, drop}
 use Rattle.std.proofs.Math.Path.{sym, ap}
-use Rattle.std.proofs.Common.{◌∙◌, ext_get_or, get_or-set_same, get_or-set_other}
-use mathlib.Core.List.{List}
+use Rattle.std.proofs.Common.{◌∙◌, add-zero, add-one, ext_get_or, get_or-set_same, get_or-set_other}
+use mathlib.Core.List.{List, [], ◌∷◌, ◌++◌, append_assoc}
 use Prim.Native.Nat.{ℕ, zero, suc, ◌+◌, ◌-◌, ◌≤◌, ◌<◌}
 use Rattle.std.proofs.Math.Decide.{ℕ_discrete, dec_lt}
 use native.Mathlib.Omega.{arith}
 use Rattle.std.proofs.Math.ListN.{set, length-set}
-use Rattle.std.proofs.lemmas.List.{length-replicate, get_or-replicate}
+use Rattle.std.proofs.lemmas.List.{length-replicate, get_or-replicate, take-append-drop, set-append_right, length-take-le, drop-set-add, drop-set, replicate-append-replicate}
 use Rattle.sequences.specs.Over.{over, length_over, over_inside, over_beyond}
 
 -- The list with v at the s places from `from` on.
-unfoldable pub fill : List ℕ → ℕ → ℕ → ℕ → List ℕ
+unfoldable pub fill : {A : Type 0} → List A → ℕ → ℕ → A → List A
 fill l from zero v = l
 fill l from (suc s) v = set (fill l from s v) (from + s) v
 
-pub length-fill : (l : List ℕ) (from s v : ℕ) → length (fill l from s v) ≡ length l
+pub length-fill : {A : Type 0} (l : List A) (from s : ℕ) (v : A) → length (fill l from s v) ≡ length l
 unfolding fill
 length-fill l from zero v = refl
 length-fill l from (suc s) v = length-set (fill l from s v) (from + s) v ∙ length-fill l from s v
@@ -38,6 +38,25 @@ pub fill-beyond : (l : List ℕ) (from s v i : ℕ) → from + s ≤ i → get_o
 unfolding fill
 fill-beyond l from zero v i h = refl
 fill-beyond l from (suc s) v i h = get_or-set_other (fill l from s v) (from + s) i v 0 (omega arith) ∙ fill-beyond l from s v i (omega arith)
+
+-- What comes before, the value s times, what comes after.
+pub fill_parts : {A : Type 0} (l : List A) (from s : ℕ) (v : A) → from + s ≤ length l → fill l from s v ≡ take from l ++ (replicate s v ++ drop (from + s) l)
+unfolding fill
+fill_parts l from zero v h = rw add-zero (sym (take-append-drop from l))
+fill_parts l from (suc s) v h =
+    let n : from + s - from ≡ s = omega arith in
+    let z : s - s ≡ 0 = omega arith in
+    let e : from + s + 0 ≡ from + s = omega arith in
+    let next : from + s + 1 ≡ from + suc s = omega arith in
+    ap (λ k. set k (from + s) v) (fill_parts l from s v (omega arith))
+    ∙ set-append_right (take from l) (replicate s v ++ drop (from + s) l) from (from + s) v (length-take-le from l (omega arith)) (omega arith)
+    ∙ ap (λ k. take from l ++ k)
+    (ap (λ k. set (replicate s v ++ drop (from + s) l) k v) n
+    ∙ set-append_right (replicate s v) (drop (from + s) l) s s v (length-replicate s v) (omega arith)
+    ∙ ap (λ k. replicate s v ++ k)
+    (ap (λ k. set (drop (from + s) l) k v) z ∙ sym (drop-set-add (from + s) l 0 v) ∙ ap (λ k. drop (from + s) (set l k v)) e ∙ drop-set l (from + s) v (omega arith) ∙ ap (λ k. v ∷ drop k l) next)
+    ∙ sym (append_assoc (replicate s v) (v ∷ []) (drop (from + suc s) l))
+    ∙ ap (λ k. k ++ drop (from + suc s) l) (replicate-append-replicate s 1 v ∙ ap (λ k. replicate k v) (add-one s)))
 
 -- From the front of the list on.
 pub fill-front : (l : List ℕ) (s v : ℕ) → s ≤ length l → fill l 0 s v ≡ over (replicate s v) l
