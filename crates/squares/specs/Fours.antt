@@ -5,8 +5,8 @@ use Rattle.sequences.specs.Fill.{fill}
 use Rattle.squares.specs.Rows.{RowsFit}
 use Rattle.squares.specs.Filling.{RunFilled, run-filled, RowsFilled, rows_empty, rows_one_more}
 
--- The square of side 2 at the place `at`, in rows of w, given four colours.
-unfoldable pub four_stored : ℕ → ℕ → ℕ → ℕ → ℕ → ℕ → List ℕ → List ℕ
+-- The square of side 2 at the place `at`, in rows of w, given four values.
+unfoldable pub four_stored : {A : Type 0} → ℕ → ℕ → A → A → A → A → List A → List A
 four_stored w at nw ne sw se raster = set (set (set (set raster at nw) (at + 1) ne) (at + w) sw) (at + w + 1) se
 
 -- The square of side 2 given one colour four times.

@@ -6,11 +6,11 @@ use Rattle.squares.specs.Fours.{four_stored}
 use Rattle.squares.proofs.store_four.Goals as goal
 
 pub bounds-raster-at-2 : goal.bounds-raster-at-2
-bounds-raster-at-2 c = simp length-set (omega arith)
+bounds-raster-at-2 g c = simp length-set (omega arith)
 
 pub bounds-raster-at-3 : goal.bounds-raster-at-3
-bounds-raster-at-3 c = simp length-set (omega arith)
+bounds-raster-at-3 g c = simp length-set (omega arith)
 
 pub returns : goal.returns
 unfolding four_stored
-returns c = refl
+returns g c = refl
