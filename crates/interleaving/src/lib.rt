@@ -6,26 +6,31 @@ ghost use Rattle.interleaving.specs.Codes.{code, column, row};
 ghost use Rattle.interleaving.specs.Spreads.{spread, spreads};
 ghost use Rattle.interleaving.specs.Gathering.{groups};
 
-// The spread number of a byte: its entry of the table.
-fn spread_of(table: &[u16; 256], i: usize) -> u32
-    requires { (table.now ≡ spreads) × (i < 256) }
-    ensures { result ≡ spread 8 i }
-{
-    table[i] as u32
+// The table of the 256 spread numbers. It is lent, so that a loop over many pixels can build it once.
+#[derive(Drop)]
+pub struct Spreads {
+    pub entries: [u16; 256],
+    pub ghost rule: { entries ≡ spreads },
 }
 
-// The code of the pixel (x, y), both below 256, from the table of the 256 spread numbers. The table is lent, so that a loop over many
-// pixels can build it once.
-pub fn code8(table: &[u16; 256], x: usize, y: usize) -> u32
-    requires { (table.now ≡ spreads) × (x < 256) × (y < 256) }
+// The spread number of a byte: its entry of the table.
+fn spread_of(table: &Spreads, i: usize) -> u32
+    requires { i < 256 }
+    ensures { result ≡ spread 8 i }
+{
+    table.entries[i] as u32
+}
+
+// The code of the pixel (x, y), both below 256.
+pub fn code8(table: &Spreads, x: usize, y: usize) -> u32
+    requires { (x < 256) × (y < 256) }
     ensures { result ≡ code 8 x y }
 {
     spread_of(table, x) + 2 * spread_of(table, y)
 }
 
 // The code of any pixel: low bytes, then high bytes.
-pub fn code_by_table(table: &[u16; 256], x: u16, y: u16) -> u32
-    requires { table.now ≡ spreads }
+pub fn code_by_table(table: &Spreads, x: u16, y: u16) -> u32
     ensures { result ≡ code 16 x y }
 {
     code8(table, (x % 256) as usize, (y % 256) as usize)

@@ -2,11 +2,13 @@
 ghost use Rattle.std.specs.Prelude.{◌≡◌};
 ghost use Rattle.interleaving.specs.Spreads.{spreads};
 
+use interleaving::Spreads;
+
 // The table, for a caller that lends it to `interleaving::code8` or `code_by_table`.
-pub fn spreads() -> [u16; 256]
-    ensures { result ≡ spreads }
+pub fn spreads() -> Spreads
+    ensures { result.entries ≡ spreads }
 {
-    SPREADS
+    Spreads { entries: SPREADS }
 }
 
 // Entry i is i with a zero digit put above each of its binary digits.

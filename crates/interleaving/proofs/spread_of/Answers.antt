@@ -4,7 +4,7 @@ use Rattle.interleaving.specs.Spreading.{entry_is_spread, spread-below}
 use Rattle.interleaving.proofs.spread_of.Goals as goal
 
 pub overflow_cast-result : goal.overflow_cast-result
-overflow_cast-result c = omega (arith, entry_is_spread c.args.table.now c.requires.0 c.args.i c.requires.1, spread-below 8 c.args.i)
+overflow_cast-result c = omega (arith, entry_is_spread _ c.args.table.now.rule c.args.i c.requires, spread-below 8 c.args.i)
 
 pub returns : goal.returns
-returns c = entry_is_spread c.args.table.now c.requires.0 c.args.i c.requires.1
+returns c = entry_is_spread _ c.args.table.now.rule c.args.i c.requires

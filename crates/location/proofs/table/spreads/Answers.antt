@@ -4,6 +4,6 @@ use Rattle.sequences.specs.Ranges.{range, tabulate}
 use Rattle.interleaving.specs.Spreads.{spread, spreads}
 use Rattle.location.proofs.table.spreads.Goals as goal
 
-pub returns : goal.returns
+pub invariant_of-result : goal.invariant_of-result
 unfolding spreads spread tabulate range
-returns c = refl
+invariant_of-result c = record { rule = refl }
