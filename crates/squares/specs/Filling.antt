@@ -1,6 +1,6 @@
 -- Runs and squares of a raster filled with one colour.
-use Rattle.std.specs.Prelude.{◌≡◌, refl, ◌⊎◌, List, ℕ, ◌+◌, ◌-◌, ◌*◌, ◌≤◌, ◌<◌, length, get_or, set}
-use Rattle.std.proofs.Common.{sym, ap, ◌∙◌, subst, inl, inr, add-mul, arith}
+use Rattle.std.specs.Prelude.{◌≡◌, refl, ◌⊎◌, List, ℕ, zero, suc, ◌+◌, ◌-◌, ◌*◌, ◌≤◌, ◌<◌, length, get_or, set}
+use Rattle.std.proofs.Common.{sym, ap, ◌∙◌, subst, inl, inr, add-mul, add-one, arith}
 use Rattle.std.proofs.Math.Decide.{ℕ_discrete, dec_lt}
 use Rattle.sequences.specs.Fill.{fill, length-fill, fill-inside, fill-before, fill-beyond}
 use Rattle.squares.specs.Rows.{RowsFit}
@@ -62,6 +62,29 @@ rows_one_more {w} {at} {s} {k} {v} {old} {new} {newer} from e r f = record {
     off : (j : ℕ) → ((x y : ℕ) → x < s → y < k + 1 → j ≡ at + y * w + x → ⊥) → ((from ≤ j) × (j < from + s)) ⊎ ((j < from) ⊎ (from + s ≤ j)) → (j < from) ⊎ (from + s ≤ j)
     off j o (inl h) = absurd (o (j - from) k (omega (arith, h.0, h.1)) (omega arith) (omega (arith, e, h.0)))
     off j o (inr h) = h
+
+-- The list with k rows of s entries from the place `at` on, w apart, filled with v, row by row.
+unfoldable pub fill_rows : {A : Type 0} → List A → ℕ → ℕ → ℕ → ℕ → A → List A
+unfolding fill
+fill_rows l w at s zero v = l
+fill_rows l w at s (suc k) v = fill (fill_rows l w at s k v) (at + k * w) s v
+
+pub length-fill_rows : {A : Type 0} (l : List A) (w at s k : ℕ) (v : A) → length (fill_rows l w at s k v) ≡ length l
+unfolding fill_rows
+length-fill_rows l w at s zero v = refl
+length-fill_rows l w at s (suc k) v = length-fill (fill_rows l w at s k v) (at + k * w) s v ∙ length-fill_rows l w at s k v
+
+rows_filled_so_far : (old : List ℕ) (w at s k v : ℕ) → RowsFit (length old) w at s k → RowsFilled w at s k v old (fill_rows old w at s k v)
+unfolding fill_rows
+rows_filled_so_far old w at s zero v fit = rows_empty
+rows_filled_so_far old w at s (suc k) v fit =
+    let before = rows_filled_so_far old w at s k v (λ j h. fit j (omega arith)) in
+    let room : at + k * w + s ≤ length (fill_rows old w at s k v) = omega (arith, fit k (omega arith), length-fill_rows old w at s k v) in
+    subst (λ (j : ℕ). RowsFilled w at s j v old (fill_rows old w at s (suc k) v)) (add-one k) (rows_one_more (at + k * w) refl before (run-filled room refl))
+
+-- A square that was filled row by row.
+pub rows_filled : {old new : List ℕ} (w at s v : ℕ) → RowsFit (length old) w at s s → new ≡ fill_rows old w at s s v → RowsFilled w at s s v old new
+rows_filled {old} w at s v fit e = rw e (rows_filled_so_far old w at s s v fit)
 
 -- The loop over the rows of a square: k rows are filled and the next begins at `from`.
 pub record RowsDone (w at s k v from : ℕ) (old new : List ℕ) : Type 0 where
