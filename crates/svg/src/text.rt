@@ -12,17 +12,17 @@ fn put_number(text: &mut [u8], letter: u8, v: u32) -> usize
 {
     text[0] = letter;
     if v < 10 {
-        text[1] = 48 + (v as u8);
+        text[1] = b'0' + (v as u8);
         return 2;
     }
     if v < 100 {
-        text[1] = 48 + ((v / 10) as u8);
-        text[2] = 48 + ((v % 10) as u8);
+        text[1] = b'0' + ((v / 10) as u8);
+        text[2] = b'0' + ((v % 10) as u8);
         return 3;
     }
-    text[1] = 48 + ((v / 100) as u8);
-    text[2] = 48 + ((v / 10 % 10) as u8);
-    text[3] = 48 + ((v % 10) as u8);
+    text[1] = b'0' + ((v / 100) as u8);
+    text[2] = b'0' + ((v / 10 % 10) as u8);
+    text[3] = b'0' + ((v % 10) as u8);
     4
 }
 
@@ -31,8 +31,8 @@ fn put_first(text: &mut [u8], c: u32) -> usize
     requires { (8 ≤ length text.old) × (inside c ≡ true) }
     ensures { Put (word 0 c) text.old text.new result }
 {
-    let n = put_number(text, 77, c % 512);
-    let m = put_number(&mut text[n..], 32, c / 512);
+    let n = put_number(text, b'M', c % 512);
+    let m = put_number(&mut text[n..], b' ', c / 512);
     n + m
 }
 
@@ -45,9 +45,9 @@ fn put_corner(text: &mut [u8], i: usize, c: u32) -> usize
         return put_first(text, c);
     }
     if i % 2 == 0 {
-        return put_number(text, 86, c / 512);
+        return put_number(text, b'V', c / 512);
     }
-    put_number(text, 72, c % 512)
+    put_number(text, b'H', c % 512)
 }
 
 // The path data of corners that are a cycle form.
@@ -56,12 +56,9 @@ pub(crate) fn write_path(corners: &[u32], text: &mut [u8]) -> usize
     ensures { Put (path_data corners.now) text.old text.new result }
 {
     let mut at: usize = 0;
-    let mut i: usize = 0;
-    while i < corners.len() {
-        let n = put_corner(&mut text[at..], i, corners[i]);
-        at += n;
-        i += 1;
+    for (i, &corner) in corners.iter().enumerate() {
+        at += put_corner(&mut text[at..], i, corner);
     }
-    text[at] = 90;
+    text[at] = b'Z';
     at + 1
 }

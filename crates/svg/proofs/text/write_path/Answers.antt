@@ -21,23 +21,23 @@ slice_bounds-put_corner-start c =
     let word_room : c.loop-i.at + 8 ≤ length c.loop-i.text = path_room c.loop-i.invariant room c.loop-i-test.true in
     omega (arith, word_room)
 
-pub put_corner-n-requires : goal.put_corner-n-requires
-put_corner-n-requires c =
+pub put_corner-at-requires : goal.put_corner-at-requires
+put_corner-at-requires c =
     let room : 9 + 4 * length c.args.corners.now ≤ length c.args.text.now = c.requires.1 in
     let word_room : c.loop-i.at + 8 ≤ length c.loop-i.text = path_room c.loop-i.invariant room c.loop-i-test.true in
     (simp (length-take, length-drop) (omega (arith, word_room)), all_inside_at c.args.corners.now c.requires.0 c.loop-i.i c.loop-i-test.true)
 
 pub overflow_add-at : goal.overflow_add-at
 overflow_add-at c =
-    let further : let p = c.put_corner-n in let after = put_mid c.loop-i.at (length c.loop-i.text - c.loop-i.at) c.loop-i.text p.new.text in PathSoFar c.args.corners.now c.args.text.now after (c.loop-i.i + 1) (c.loop-i.at + p.result) =
-    let p = c.put_corner-n in
+    let further : let p = c.put_corner-at in let after = put_mid c.loop-i.at (length c.loop-i.text - c.loop-i.at) c.loop-i.text p.new.text in PathSoFar c.args.corners.now c.args.text.now after (c.loop-i.i + 1) (c.loop-i.at + p.result) =
+    let p = c.put_corner-at in
     path_on c.loop-i.invariant p.new.text p.result c.requires.0 c.loop-i-test.true p.auto.text p.ensures in
     omega (arith, further.few)
 
 pub loop-i-preserved : goal.loop-i-preserved
 loop-i-preserved c =
-    let further : let p = c.put_corner-n in let after = put_mid c.loop-i.at (length c.loop-i.text - c.loop-i.at) c.loop-i.text p.new.text in PathSoFar c.args.corners.now c.args.text.now after (c.loop-i.i + 1) (c.loop-i.at + p.result) =
-    let p = c.put_corner-n in
+    let further : let p = c.put_corner-at in let after = put_mid c.loop-i.at (length c.loop-i.text - c.loop-i.at) c.loop-i.text p.new.text in PathSoFar c.args.corners.now c.args.text.now after (c.loop-i.i + 1) (c.loop-i.at + p.result) =
+    let p = c.put_corner-at in
     path_on c.loop-i.invariant p.new.text p.result c.requires.0 c.loop-i-test.true p.auto.text p.ensures in
     further
 
