@@ -1,5 +1,5 @@
 -- The parts of the test of a chain, asked one after the other; the digit of the last byte stands before the first.
-use Rattle.std.specs.Prelude.{◌≡◌, refl, ◌≢◌, ◌⊎◌, Bool, true, false, ◌&&◌, ◌||◌, List, [], ◌∷◌, ℕ, suc, ◌-◌, ◌≤◌, ◌<◌, eqb, leb, length, get_or}
+use Rattle.std.specs.Prelude.{Option, ◌≡◌, refl, ◌≢◌, ◌⊎◌, Bool, true, false, ◌&&◌, ◌||◌, List, [], ◌∷◌, ℕ, suc, ◌-◌, ◌≤◌, ◌<◌, eqb, leb, length, get_or}
 use Rattle.std.proofs.Common.{sym, ap, ap₂, ◌∙◌, inl, inr, arith}
 use borrow.Author.Tests.{eqb-true, leb-true, le-leb, lt-leb}
 use Rattle.sequences.specs.Cases.{and_both}
@@ -11,7 +11,6 @@ use Rattle.lattice.specs.CycleForm.{inside}
 use Rattle.chains.specs.ChainForm.{digit_of, walk, leads, last_byte, first_east, is_across, last_across, closes, corners_of, chain_form}
 use Rattle.chains.specs.Followed.{Follows}
 use Rattle.chains.specs.Following.{LeadsBack}
-use Rattle.chains.specs.declared.reading.Followed.{Followed}
 
 -- What the test says, each part by itself.
 pub record ChainParts (start : ℕ) (bs : List ℕ) : Type 0 where
@@ -78,7 +77,7 @@ corners-turns start bs h k =
     corners_are 0 (walk start bs) (rw (length-walk bs start) h) ∙ ap (λ d. turns d (walk start bs)) (last_edge bs 0 start h k)
 
 -- What was followed with the last byte's digit before the first are the corners of the chain.
-pub follows_chain : (start : ℕ) (bs : List ℕ) (answer : Followed) → 0 < length bs → is_across (last_byte bs) ≡ true
+pub follows_chain : (start : ℕ) (bs : List ℕ) (answer : Option ℕ) → 0 < length bs → is_across (last_byte bs) ≡ true
     → let d = get_or bs (length bs - 1) 0 - 48 in Follows (leads d start bs start) (turns d (walk start bs)) answer
     → Follows (closes start bs) (corners_of start bs) answer
 unfolding closes digit_of

@@ -10,13 +10,6 @@ ghost use Rattle.chains.specs.Following.{LeadsBack, TurnPut};
 
 use lattice::right;
 
-// What bytes give that are followed: no chain, or how many corners they have.
-#[derive(Clone, Copy)]
-pub enum Followed {
-    NoChain,
-    Corners(usize),
-}
-
 // One unit with the digit d from p ends within 0 to 256.
 fn is_free(p: u32, d: u8) -> bool
     requires { d < 4 }
@@ -35,17 +28,11 @@ fn may_follow(d: u8, p: u32, b: u8) -> bool
     requires { d < 4 }
     ensures { result ≡ allowed d p b }
 {
-    if b < 48 {
-        return false;
-    }
-    if 51 < b {
+    if b < b'0' || b'3' < b {
         return false;
     }
     let back = right(right(d));
-    if b - 48 == back {
-        return false;
-    }
-    is_free(p, b - 48)
+    b - b'0' != back && is_free(p, b - b'0')
 }
 
 // The point one unit on from p with the digit d.
@@ -65,72 +52,56 @@ fn moved(p: u32, d: u8) -> u32
 fn corners_met(d: u8, e: u8) -> usize
     ensures { result ≡ cond (eqb d e) 0 1 }
 {
-    if d == e {
-        return 0;
-    }
-    1
+    usize::from(d != e)
 }
 
-// The corners of bytes that lead from the start back to it, counted; `last` is the digit before the first.
-fn follow(start: u32, bytes: &[u8], last: u8) -> Followed
+// The corners of bytes that lead from the start back to it, counted, or none; `last` is the digit before the first.
+fn follow(start: u32, bytes: &[u8], last: u8) -> Option<usize>
     requires { (inside start ≡ true) × (last < 4) }
     ensures { Follows (leads last start bytes.now start) (turns last (walk start bytes.now)) result }
 {
     let mut p = start;
     let mut d = last;
     let mut n: usize = 0;
-    let mut i: usize = 0;
-    while i < bytes.len() {
-        let b = bytes[i];
+    for &b in bytes {
         if !may_follow(d, p, b) {
-            return Followed::NoChain;
+            return None;
         }
-        n += corners_met(d, b - 48);
-        p = moved(p, b - 48);
-        d = b - 48;
-        i += 1;
+        let e = b - b'0';
+        n += corners_met(d, e);
+        p = moved(p, e);
+        d = e;
     }
-    if p == start {
-        return Followed::Corners(n);
-    }
-    Followed::NoChain
+    if p == start { Some(n) } else { None }
 }
 
 // The byte of the digit 1 or 3.
 fn across(b: u8) -> bool
     ensures { result ≡ is_across b }
 {
-    if b == 49 {
-        return true;
-    }
-    b == 51
+    b == b'1' || b == b'3'
 }
 
-// The corners of a chain, counted.
-pub(crate) fn corner_count(start: u32, bytes: &[u8]) -> Followed
+// The corners of a chain, counted, or none.
+pub(crate) fn corner_count(start: u32, bytes: &[u8]) -> Option<usize>
     ensures { Follows (chain_form start bytes.now) (corners_of start bytes.now) result }
 {
     if !forms::within(start) {
-        return Followed::NoChain;
+        return None;
     }
     let n = bytes.len();
-    if n == 0 {
-        return Followed::NoChain;
-    }
-    if bytes[0] != 48 {
-        return Followed::NoChain;
+    if n == 0 || bytes[0] != b'0' {
+        return None;
     }
     let last = bytes[n - 1];
     if !across(last) {
-        return Followed::NoChain;
+        return None;
     }
-    let Followed::Corners(k) = follow(start, bytes, last - 48) else {
-        return Followed::NoChain;
-    };
+    let k = follow(start, bytes, last - b'0')?;
     if 262144 < k {
-        return Followed::NoChain;
+        return None;
     }
-    Followed::Corners(k)
+    Some(k)
 }
 
 // The point p at the place `at`, where the digit changes from d to e.
@@ -153,13 +124,11 @@ pub(crate) fn write_corners(start: u32, bytes: &[u8], last: u8, corners: &mut [u
     let mut p = start;
     let mut d = last;
     let mut at: usize = 0;
-    let mut i: usize = 0;
-    while i < bytes.len() {
-        let e = bytes[i] - 48;
+    for &b in bytes {
+        let e = b - b'0';
         at = put_turn(corners, at, d, e, p);
         p = moved(p, e);
         d = e;
-        i += 1;
     }
     at
 }

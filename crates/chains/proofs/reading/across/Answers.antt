@@ -1,5 +1,5 @@
 -- The byte is compared with 49 and with 51.
-use borrow.Author.Tests.{eq-eqb, ne_eqb}
+use Rattle.std.proofs.Common.{eq-eqb, ne_eqb}
 use Rattle.chains.specs.ChainForm.{is_across}
 use Rattle.chains.proofs.reading.across.Goals as goal
 
@@ -7,6 +7,6 @@ pub returns-then-b-eq49 : goal.returns-then-b-eq49
 unfolding is_across
 returns-then-b-eq49 c = simp (eq-eqb _ _ c.if-b-eq49.true)
 
-pub returns : goal.returns
+pub returns-else-b-eq49 : goal.returns-else-b-eq49
 unfolding is_across
-returns c = simp (ne_eqb _ _ c.if-b-eq49.false)
+returns-else-b-eq49 c = simp (ne_eqb _ _ c.if-b-eq49.false)

@@ -1,9 +1,11 @@
 -- One corner exactly where the digit changes.
-use borrow.Author.Tests.{eq-eqb, ne_eqb}
+use Rattle.std.proofs.Common.{◌≡◌, refl, ◌∙◌, Bool, true, false, cond, not}
+use mir.Val.{bool_byte}
 use Rattle.chains.proofs.reading.corners_met.Goals as goal
 
-pub returns-then-d-e : goal.returns-then-d-e
-returns-then-d-e c = simp (eq-eqb _ _ c.if-d-e.true)
+changes : (same : Bool) → bool_byte (not same) ≡ cond same 0 1
+changes true = refl
+changes false = refl
 
 pub returns : goal.returns
-returns c = simp (ne_eqb _ _ c.if-d-e.false)
+returns c = c.from.ensures ∙ changes _
