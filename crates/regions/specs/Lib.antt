@@ -3,3 +3,4 @@ pub mod Promise
 pub mod Labelling
 pub mod Bounds
 pub mod Callers
+pub mod Results

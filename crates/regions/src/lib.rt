@@ -4,22 +4,30 @@
 
 ghost use Rattle.std.specs.Prelude.{◌≡◌};
 ghost use Rattle.regions.specs.Promise.{Numbering};
+ghost use Rattle.regions.specs.Results.{numbered};
 ghost use Rattle.regions.specs.Labelling.{Numberable, LabelsFound};
 
-// The number of an answer, 0 for acceptance, and how many regions there are.
+use answers::Cause;
+
+// The answer for C: the number of a cause and 0, or 0 and how many regions there are.
+#[repr(C)]
 #[derive(Clone, Copy)]
 pub struct Numbered {
     pub number: u32,
     pub regions: u32,
 }
 
-// The answer of a refusal.
-fn refused(number: u32) -> Numbered
-    ensures { result ≡ record { number = number; regions = 0 } }
-{
-    Numbered {
-        number: number,
-        regions: 0,
+impl From<Result<u32, Cause>> for Numbered {
+    ghost from_gives = { λ outcome answer. answer ≡ numbered outcome };
+
+    fn from(outcome: Result<u32, Cause>) -> Numbered {
+        match outcome {
+            Ok(regions) => Numbered { number: 0, regions },
+            Err(cause) => Numbered {
+                number: u32::from(cause),
+                regions: 0,
+            },
+        }
     }
 }
 
@@ -51,32 +59,23 @@ pub fn number(
     colours: &[u16],
     labels: &mut [u32],
     work: &mut [u32],
-) -> Numbered
+) -> Result<u32, Cause>
     ensures { Numbering n codes.now levels.now colours.now
-        labels.old work.old labels.new work.new result }
+        labels.old work.old labels.new work.new (numbered result) }
 {
-    let fault = blocks::check(n, codes, levels, colours);
-    if fault != 0 {
-        return refused(fault);
-    }
-    if labels.len() < codes.len() {
-        return refused(8);
-    }
+    blocks::check(n, codes, levels, colours)?;
     let need = 2 * location::pixels(n);
-    if need <= work.len() {
-        let regions = label(
-            n,
-            need,
-            codes,
-            levels,
-            colours,
-            &mut labels[..codes.len()],
-            work,
-        );
-        return Numbered {
-            number: 0,
-            regions: regions,
-        };
+    if labels.len() < codes.len() || work.len() < need {
+        return Err(Cause::ListTooShort);
     }
-    refused(8)
+    let count = label(
+        n,
+        need,
+        codes,
+        levels,
+        colours,
+        &mut labels[..codes.len()],
+        work,
+    );
+    Ok(count)
 }
