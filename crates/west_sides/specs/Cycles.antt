@@ -131,54 +131,59 @@ module _ {side count units₀ units from k : ℕ} {os es cs w₀ w : List ℕ} (
         none = λ z f. false≢true (sym z);
       }
 
-  module _ (more : k < length es) where
+  -- The owner and the end of the cycle k, read at its turn.
+  module _ {owner end : ℕ} (turn : (k < length os) × (k < length es) × ((d : ℕ) → owner ≡ get_or os k d) × ((d : ℕ) → end ≡ get_or es k d)) where
     p : PartHeld agree k
-    p = part_held agree k more
+    p = part_held agree k turn.1
+
+    end_is : end ≡ get_or es k 0
+    end_is = turn.3 0
 
     abbrev corners : List ℕ
-    corners = take (get_or es k 0 - from) (drop from cs)
+    corners = take (end - from) (drop from cs)
 
-    here : drop k l ≡ (record { region = get_or os k 0; points = corners }) ∷ drop (suc k) l
+    here : drop k l ≡ (record { region = owner; points = corners }) ∷ drop (suc k) l
     here =
-        cycle_at_lem l k (omega (arith, length-held agree))
-        ∙ ap₂ (λ (o : ℕ) (ps : List ℕ). (record { region = o; points = ps }) ∷ drop (suc k) l) p.its_owner
-        (p.part ∙ ap (λ (b : ℕ). take (get_or es k 0 - b) (drop b cs)) (sym g.begins))
+        cycle_at_lem l k (omega (arith, length-held agree, turn.1))
+        ∙ ap₂ (λ (o : ℕ) (ps : List ℕ). (record { region = o; points = ps }) ∷ drop (suc k) l) (p.its_owner ∙ sym (turn.2 0))
+        (p.part ∙ ap₂ (λ (a b : ℕ). take (a - b) (drop b cs)) (sym end_is) (sym g.begins))
 
     -- The corners of the cycle k stand in the corner list.
-    pub corners_stand : (from ≤ get_or es k 0) × (get_or es k 0 ≤ length cs)
-    corners_stand = (omega (arith, p.rises, g.begins), p.fits)
+    pub corners_stand : (from ≤ end) × (end ≤ length cs)
+    corners_stand = (omega (arith, p.rises, g.begins, end_is), omega (arith, p.fits, end_is))
 
     fit_here : AllFit side count units₀ l
-        → (get_or os k 0 < count) × Fits side units (outline corners) × AllFit side count (units - norths (outline corners)) (drop (suc k) l)
+        → (owner < count) × Fits side units (outline corners) × AllFit side count (units - norths (outline corners)) (drop (suc k) l)
     unfolding AllFit
     fit_here f = subst (AllFit side count units) here (g.needed f)
 
     not-all : {w' : List ℕ} → length w' ≡ length w → (AllFit side count units₀ l → ⊥) → AllOutlinesStored side count units₀ l w₀ w' false
     not-all long no_fit = record { long = long ∙ g.long; done = λ z. absurd (false≢true z); none = λ z. no_fit }
 
-    pub no_such_owner : count ≤ get_or os k 0 → AllOutlinesStored side count units₀ l w₀ w false
+    pub no_such_owner : count ≤ owner → AllOutlinesStored side count units₀ l w₀ w false
     no_such_owner h = not-all refl (λ f. let z : ⊥ = omega (arith, (fit_here f).0) in z)
 
-    module _ {w' : List ℕ} {ok : Bool} {left : ℕ} (s : Stored side (get_or os k 0 + 1) units (outline corners) w w' ok left) where
-      pub cycle_not_stored : ok ≡ false → AllOutlinesStored side count units₀ l w₀ w' false
-      cycle_not_stored z = not-all s.long (λ f. s.none z (fit_here f).1)
+    pub cycle_not_stored : {w' : List ℕ} {left : ℕ} → Stored side (owner + 1) units (outline corners) w w' false left
+        → AllOutlinesStored side count units₀ l w₀ w' false
+    cycle_not_stored s = not-all s.long (λ f. s.none refl (fit_here f).1)
 
-      pub one_cycle_more : get_or os k 0 < count → ok ≡ true → NextCycle side count units₀ es l w₀ w' left (get_or es k 0) (k + 1)
-      unfolding begin_of store_all AllFit
-      one_cycle_more below z =
-          let a = s.done z in
-          let next : suc k ≡ k + 1 = omega arith in
-          let r : get_or os k 0 + 1 ≡ suc (get_or os k 0) = omega arith in
-          subst (NextCycle side count units₀ es l w₀ w' left (get_or es k 0)) next
-          (record {
-            begins = refl;
-            long = s.long ∙ g.long;
-            stored =
-                ap (store_all side (drop (suc k) l)) (a.stored ∙ ap (λ (v : ℕ). stores side v (outline corners) w) r)
-                ∙ ap (λ (cs : List Cycle). store_all side cs w) (sym here)
-                ∙ g.stored;
-            enough = λ f.
-                g.enough (subst (AllFit side count units) (sym here)
-                (below, a.fits, subst (λ (u : ℕ). AllFit side count u (drop (suc k) l)) a.units_left f));
-            needed = λ f. subst (λ (u : ℕ). AllFit side count u (drop (suc k) l)) (sym a.units_left) (fit_here f).2;
-          })
+    pub one_cycle_more : {w' : List ℕ} {left : ℕ} → owner < count → Stored side (owner + 1) units (outline corners) w w' true left
+        → NextCycle side count units₀ es l w₀ w' left end (k + 1)
+    unfolding begin_of store_all AllFit
+    one_cycle_more {w'} {left} below s =
+        let a = s.done refl in
+        let next : suc k ≡ k + 1 = omega arith in
+        let r : owner + 1 ≡ suc owner = omega arith in
+        subst (NextCycle side count units₀ es l w₀ w' left end) next
+        (record {
+          begins = end_is;
+          long = s.long ∙ g.long;
+          stored =
+              ap (store_all side (drop (suc k) l)) (a.stored ∙ ap (λ (v : ℕ). stores side v (outline corners) w) r)
+              ∙ ap (λ (cs : List Cycle). store_all side cs w) (sym here)
+              ∙ g.stored;
+          enough = λ f.
+              g.enough (subst (AllFit side count units) (sym here)
+              (below, a.fits, subst (λ (u : ℕ). AllFit side count u (drop (suc k) l)) a.units_left f));
+          needed = λ f. subst (λ (u : ℕ). AllFit side count u (drop (suc k) l)) (sym a.units_left) (fit_here f).2;
+        })

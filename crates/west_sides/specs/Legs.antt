@@ -2,16 +2,16 @@
 -- it is enough to look at the corner where it begins.
 use Rattle.std.specs.Prelude.{◌≡◌, ◌≢◌, ◌⊎◌, true, false, ℕ, zero, suc, ◌+◌, ◌-◌, ◌*◌, ◌/◌, ◌%◌, ◌≤◌, ◌<◌, length, set}
 use Rattle.std.proofs.Math.Path.{refl, ap}
-use Rattle.std.proofs.Common.{sym, ap₂, ◌∙◌, subst, inl, inr, suc-mul, mul-le-mul_right, length-set}
+use Rattle.std.proofs.Common.{sym, ap₂, ◌∙◌, subst, inl, inr, length-set}
 use mathlib.Core.List.{List, ◌∷◌}
 use native.Mathlib.Omega.{arith}
-use Rattle.std.proofs.Math.Arith.{digits_lt}
 use borrow.Author.Tests.{ne_eqb, le-ltb}
 use Rattle.lattice.specs.Directions.{point, x_of, y_of, move, edge, tail, digit}
 use Rattle.lattice.specs.Walks.{run, straight}
 use Rattle.lattice.specs.Legs.{straight_is, one_of_four}
 use Rattle.lattice.specs.Outlines.{x_of_point, y_of_point, tail-edge, digit-edge}
 use Rattle.orbits.specs.Members.{In, in_first, in_cases, in_none}
+use Rattle.steps.specs.Look.{Square}
 use Rattle.west_sides.specs.Northward.{place_right, PixelInside, stores, norths, Fits, Stored}
 use Rattle.west_sides.specs.Northward.{store-north, norths-north, stores_none, norths_none, all_stored, not_stored}
 
@@ -125,22 +125,11 @@ module _ (side r p q : ℕ) where
 
 -- ---- the loop that stores a northward leg, from the south
 
--- What is left to store in w, from the row y on, is all that was to be stored in w₀; i is the place south of the next pixel.
-pub record StoringNorth (side x from to r : ℕ) (w₀ w : List ℕ) (y i : ℕ) : Type 0 where
+-- What is left to store in w, from the row y on, is all that was to be stored in w₀.
+pub record StoringNorth (side x from to r : ℕ) (w₀ w : List ℕ) (y : ℕ) : Type 0 where
   pub low : y ≤ from
-  pub place : i ≡ y * side + x
   pub long : length w ≡ length w₀
   pub rest : stores side r (run 1 (y - to) (point x y)) w ≡ stores side r (run 1 (from - to) (point x from)) w₀
-
--- The place where it begins is a small number.
-pub north-start : (side x from : ℕ) → side ≤ 256 → x < side → from ≤ side → from * side + x < 65792
-north-start side x from narrow a b =
-    let few : from ≤ 256 = omega arith in
-    let rows : from * side ≤ 256 * side = mul-le-mul_right side few in
-    omega arith
-
-pub north_begin : (side x from to r : ℕ) (w : List ℕ) → StoringNorth side x from to r w w from (from * side + x)
-north_begin side x from to r w = record { low = omega arith; place = refl; long = refl; rest = refl }
 
 point-north : (x y : ℕ) → point x (suc y) - 512 ≡ point x y
 unfolding point
@@ -158,32 +147,14 @@ one_stored side x r k y w h =
     ap (stores side r (run 1 k (p - 512))) (store-north side r w (edge p 1) (digit-edge p 1 (omega arith)) ∙ ap (λ (i : ℕ). set w i r) at)
     ∙ ap (λ (t : ℕ). stores side r (run 1 k t) (set w (y * side + x) r)) (point-north x y)
 
-module _ {side x from to r y i : ℕ} {w₀ w : List ℕ} (x_below : x < side) (g : StoringNorth side x from to r w₀ w y i) where
-  -- The next place is a row further north, inside the map.
-  pub record NextNorth : Type 0 where
-    pub row_back : side ≤ i
-    pub place : i - side ≡ (y - 1) * side + x
-    pub inside : i - side < length w
-
-  pub next-north : from ≤ side → side * side ≤ length w₀ → to < y → NextNorth
-  next-north fits room less =
-      let e : y ≡ suc (y - 1) = omega arith in
-      let rows : y * side ≡ (y - 1) * side + side = ap (λ (a : ℕ). a * side) e ∙ suc-mul (y - 1) side in
-      let here : i - side ≡ (y - 1) * side + x = omega (arith, g.place) in
-      record {
-        row_back = omega (arith, g.place);
-        place = here;
-        inside = omega (arith, g.long, g.low, digits_lt {q = y - 1} {m = side} {r = x} {c = side} (omega (arith, g.low)) x_below);
-      }
-
-  pub north_again : {w' : List ℕ} → side ≤ 256 → to < y → NextNorth → w' ≡ set w (i - side) r → StoringNorth side x from to r w₀ w' (y - 1) (i - side)
-  north_again {w'} narrow less next e = record {
+module _ {side x from to r y : ℕ} {w₀ w : List ℕ} (square : Square side w₀) (x_below : x < side) (less : to < y)
+    (g : StoringNorth side x from to r w₀ w y) where
+  pub north_again : StoringNorth side x from to r w₀ (set w ((y - 1) * side + x) r) (y - 1)
+  north_again = record {
     low = omega (arith, g.low);
-    place = next.place;
-    long = ap (λ (t : List ℕ). length t) e ∙ length-set w (i - side) r ∙ g.long;
+    long = length-set w ((y - 1) * side + x) r ∙ g.long;
     rest =
-        ap (stores side r (run 1 (y - 1 - to) (point x (y - 1)))) (e ∙ ap (λ (j : ℕ). set w j r) next.place)
-        ∙ sym (one_stored side x r (y - 1 - to) (y - 1) w (omega arith))
+        sym (one_stored side x r (y - 1 - to) (y - 1) w (omega (arith, square.small)))
         ∙ ap₂ (λ (k q : ℕ). stores side r (run 1 k (point x q)) w) count (omega arith)
         ∙ g.rest;
   }
@@ -191,8 +162,9 @@ module _ {side x from to r y i : ℕ} {w₀ w : List ℕ} (x_below : x < side) (
       count : suc (y - 1 - to) ≡ y - to
       count = omega arith
 
-  pub north_end : y ≤ to → w ≡ stores side r (run 1 (from - to) (point x from)) w₀
-  unfolding stores run
-  north_end h =
-      let z : 0 ≡ y - to = omega arith in
-      ap (λ (k : ℕ). stores side r (run 1 k (point x y)) w) z ∙ g.rest
+pub north_end : {side x from to r y : ℕ} {w₀ w : List ℕ} → StoringNorth side x from to r w₀ w y → y ≤ to
+    → w ≡ stores side r (run 1 (from - to) (point x from)) w₀
+unfolding stores run
+north_end {side} {x} {from} {to} {r} {y} {w₀} {w} g h =
+    let z : 0 ≡ y - to = omega arith in
+    ap (λ (k : ℕ). stores side r (run 1 k (point x y)) w) z ∙ g.rest

@@ -1,6 +1,6 @@
 -- One outline stored leg by leg: what holds before each leg, and what the last leg, back to the first corner, leads to.
-use Rattle.std.specs.Prelude.{◌≡◌, refl, Bool, true, false, ℕ, suc, ◌+◌, ◌-◌, ◌≤◌, ◌<◌, length, get_or, drop}
-use Rattle.std.proofs.Common.{sym, ap, ◌∙◌, arith, drop_of_length-le, drop-cons}
+use Rattle.std.specs.Prelude.{◌≡◌, refl, Bool, true, false, ℕ, suc, ◌+◌, ◌-◌, ◌≤◌, ◌<◌, length, get_or, take, drop}
+use Rattle.std.proofs.Common.{sym, ap, ◌∙◌, arith, drop_of_length-le, drop-cons, length-take, get_or-take, get_or-drop}
 use Rattle.std.proofs.Math.Path.{subst}
 use Rattle.std.proofs.lemmas.Bool.{false≢true}
 use mathlib.Core.List.{List, [], ◌∷◌, ◌++◌}
@@ -66,23 +66,25 @@ module _ {side r units₀ p units i : ℕ} {points w₀ w : List ℕ} (g : NextL
   legs_left h =
       subst (λ (ps : List ℕ). Remaining side r units₀ (outline points) w₀ (walk_from p ps (get_or points 0 0)) w units) (drop-cons points i 0 h) g.left
 
-  pub one_leg_more : {w' : List ℕ} {ok : Bool} {left : ℕ} → i < length points → Stored side r units (straight p (get_or points i 0)) w w' ok left → ok ≡ true
-      → NextLeg side r units₀ points w₀ w' (get_or points i 0) left (i + 1)
-  one_leg_more {w'} {ok} {left} h s z =
+  pub one_leg_more : {q left : ℕ} {w' : List ℕ} → i < length points → q ≡ get_or points i 0 → Stored side r units (straight p q) w w' true left
+      → NextLeg side r units₀ points w₀ w' q left (i + 1)
+  one_leg_more {q} {left} {w'} h is s =
       let e : suc i ≡ i + 1 = omega arith in
-      record {
+      subst (λ (t : ℕ). NextLeg side r units₀ points w₀ w' t left (i + 1)) (sym is)
+      (record {
         left = subst (λ (j : ℕ). Remaining side r units₀ (outline points) w₀ (walk_from (get_or points i 0) (drop j points) (get_or points 0 0)) w' left) e
-            (fewer_left (legs_left h) s.long (s.done z));
-      }
+            (fewer_left (legs_left h) s.long (subst (λ (t : ℕ). AllStored side r units (straight p t) w w' left) is (s.done refl)));
+      })
 
-  pub leg_not_stored : {w' : List ℕ} {ok : Bool} {left : ℕ} → i < length points → Stored side r units (straight p (get_or points i 0)) w w' ok left → ok ≡ false
-      → Stored side r units₀ (outline points) w₀ w' ok left
-  leg_not_stored h s z = record {
+  pub leg_not_stored : {q left : ℕ} {w' : List ℕ} → i < length points → q ≡ get_or points i 0 → Stored side r units (straight p q) w w' false left
+      → Stored side r units₀ (outline points) w₀ w' false left
+  leg_not_stored {q} h is s = record {
     long = s.long ∙ g.left.long;
-    done = λ t. absurd (false≢true (sym z ∙ t));
+    done = λ t. absurd (false≢true t);
     none = λ _ f.
-        let q : ℕ = get_or points i 0 in
-        s.none z (fits_first side units (straight p q) (walk_from q (drop (suc i) points) (get_or points 0 0)) ((legs_left h).needed f));
+        let o : ℕ = get_or points i 0 in
+        s.none refl (subst (λ (t : ℕ). Fits side units (straight p t)) (sym is)
+        (fits_first side units (straight p o) (walk_from o (drop (suc i) points) (get_or points 0 0)) ((legs_left h).needed f)));
   }
 
   pub closing_leg : {w' : List ℕ} {ok : Bool} {left : ℕ} → length points ≤ i → Stored side r units (straight p (get_or points 0 0)) w w' ok left
@@ -91,3 +93,11 @@ module _ {side r units₀ p units i : ℕ} {points w₀ w : List ℕ} (g : NextL
   closing_leg h s =
       last_stored
       (subst (λ (ps : List ℕ). Remaining side r units₀ (outline points) w₀ (walk_from p ps (get_or points 0 0)) w units) (drop_of_length-le points h) g.left) s
+
+-- The corners after the first, as they are walked.
+pub later_corner : (points : List ℕ) (k : ℕ) → k < length (take (length points - 1) (drop 1 points))
+    → (k + 1 < length points) × (get_or (take (length points - 1) (drop 1 points)) k 0 ≡ get_or points (k + 1) 0)
+later_corner points k h =
+    let inside : k < length points - 1 = omega (arith, length-take (length points - 1) (drop 1 points)) in
+    let e : 1 + k ≡ k + 1 = omega arith in
+    (omega arith, get_or-take (length points - 1) (drop 1 points) k 0 inside ∙ get_or-drop 1 points k 0 ∙ ap (λ (j : ℕ). get_or points j 0) e)

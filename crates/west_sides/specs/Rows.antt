@@ -1,10 +1,10 @@
 -- The rows filled from west to east: a pixel without an entry takes that of its west neighbour.
 use Rattle.std.specs.Prelude.{◌≡◌, refl, ◌≢◌, Bool, true, false, List, ◌++◌, length, set, take, drop}
-use Rattle.std.proofs.Common.{sym, ◌∙◌, subst, suc-mul, mul-le-mul_right, mul-lt-mul_of_pos_right, lt_of_mul-lt-mul_right, length-take-le, get_or-set_same, get_or-append-add, get_or-take, get_or-drop}
+use Rattle.std.proofs.Common.{sym, ◌∙◌, subst, suc-mul, mul-le-mul_right, length-take-le, get_or-set_same, get_or-append-add, get_or-take, get_or-drop}
 use Rattle.std.proofs.Math.Path.{ap, ap₂}
 use Rattle.std.proofs.lemmas.Bool.{false≢true}
 use Prim.Native.Nat.{ℕ, zero, suc, ◌+◌, ◌-◌, ◌*◌, ◌≤◌, ◌<◌}
-use Rattle.std.proofs.Math.Decide.{ℕ_discrete, dec_lt}
+use Rattle.std.proofs.Math.Decide.{ℕ_discrete}
 use native.Mathlib.Omega.{arith}
 use Rattle.std.proofs.Math.Arith.{digits_lt}
 use Rattle.std.proofs.Math.ListN.{get_or, length-set, get_or-append}
@@ -30,9 +30,6 @@ pub record RowFilled (row row' : List ℕ) (ok : Bool) : Type 0 where
   pub long : length row' ≡ length row
   pub told : ok ≡ true → (0 < get_or row 0 0) × ((x : ℕ) → x < length row → get_or row' x 0 ≡ from_west (λ i. get_or row i 0) x)
   pub none : ok ≡ false → get_or row 0 0 ≡ 0
-
-pub row_not_told : (row : List ℕ) → get_or row 0 0 ≡ 0 → RowFilled row row false
-row_not_told row h = record { long = refl; told = λ z. absurd (false≢true z); none = λ z. h }
 
 -- The places before i are filled, the others are as they were; `west` is the entry of the last place that is filled.
 pub record InRow (row₀ row : List ℕ) (west i : ℕ) : Type 0 where
@@ -98,16 +95,11 @@ pub record RowsFilled (side : ℕ) (w w' : List ℕ) (ok : Bool) : Type 0 where
   pub told : ok ≡ true → (y : ℕ) → y < side → RowTold side w w' y
   pub none : ok ≡ false → (y : ℕ) × (y < side) × (entry_at side w y 0 ≡ 0)
 
--- The rows before the place `from` are filled, the others are as they were.
-pub record NextRow (side : ℕ) (w₀ w : List ℕ) (from : ℕ) : Type 0 where
-  pub row : ℕ
-  pub place : from ≡ row * side
+-- The rows before `row` are filled, the others are as they were.
+pub record NextRow (side : ℕ) (w₀ w : List ℕ) (row : ℕ) : Type 0 where
   pub long : length w ≡ length w₀
   pub done : (y : ℕ) → y < row → RowTold side w₀ w y
-  pub rest : (j : ℕ) → from ≤ j → get_or w j 0 ≡ get_or w₀ j 0
-
-pub rows_begin : (side : ℕ) (w : List ℕ) → NextRow side w w 0
-rows_begin side w = record { row = 0; place = omega arith; long = refl; done = λ y h. absurd (omega arith); rest = λ j h. refl }
+  pub rest : (j : ℕ) → row * side ≤ j → get_or w j 0 ≡ get_or w₀ j 0
 
 -- A part of a list that is lent as `&mut list[from..end]`, and the list once the part has come back.
 lent_at : (from end : ℕ) (xs : List ℕ) (x : ℕ) → x < end - from → get_or (mid_of from (end - from) xs) x 0 ≡ get_or xs (from + x) 0
@@ -135,86 +127,54 @@ module _ (from end : ℕ) (xs ys : List ℕ) (rises : from ≤ end) (inside : en
       ∙ get_or-drop end xs (j - end) 0
       ∙ ap (λ (i : ℕ). get_or xs i 0) e
 
-module _ {side from : ℕ} {w₀ w : List ℕ} (size : length w₀ ≡ side * side) (g : NextRow side w₀ w from) where
-  row_inside : from < length w → g.row < side
-  row_inside h = lt_of_mul-lt-mul_right side (omega (arith, g.place, g.long))
+pub row_ends : (side row : ℕ) → (row + 1) * side ≡ row * side + side
+row_ends side row = ap (λ (k : ℕ). k * side) (omega arith) ∙ suc-mul row side
 
-  -- The next row lies in the map.
-  pub row_fits : from < length w → from + side ≤ length w
-  row_fits h =
-      let b : suc g.row ≤ side = omega (arith, row_inside h) in
-      let up : suc g.row * side ≤ side * side = mul-le-mul_right side b in
-      omega (arith, suc-mul g.row side, g.place, g.long)
+module _ {side row end : ℕ} {w₀ w : List ℕ} (size : length w₀ ≡ side * side) (less : row < side) (g : NextRow side w₀ w row)
+    (ends : end ≡ row * side + side) where
+  abbrev from : ℕ
+  from = row * side
 
-  pub fewer_entries : from < length w → length w₀ - (from + side) < length w₀ - from
-  fewer_entries h = omega (arith, row_inside h, g.long)
+  fits : end ≤ length w
+  fits =
+      let up : suc row * side ≤ side * side = mul-le-mul_right side (omega arith) in
+      omega (arith, suc-mul row side, g.long)
 
-  pub rows_end : length w ≤ from → RowsFilled side w₀ w true
-  rows_end h = record {
-    long = g.long;
-    told = λ z y less. g.done y (all y less (dec_lt y g.row));
-    none = λ z. absurd (false≢true (sym z));
-  }
-    where
-      all : (y : ℕ) → y < side → Dec (y < g.row) → y < g.row
-      all y less (yes b) = b
-      all y less (no b) =
-          let up : g.row * side ≤ y * side = mul-le-mul_right side (omega arith) in
-          let below : y * side < side * side = mul-lt-mul_of_pos_right less (omega arith) in
-          absurd (omega (arith, g.place, g.long))
+  -- What is lent is the row, as it stood at first.
+  lent_size : length (mid_of from (end - from) w) ≡ side
+  lent_size = mid_len from end w fits ∙ omega arith
 
-  module _ {end : ℕ} (more : from < length w) (ends : end ≡ from + side) where
-    -- What is lent is the row, as it stood at first.
-    lent_size : length (mid_of from (end - from) w) ≡ side
-    lent_size = mid_len from end w (omega (arith, row_fits more)) ∙ omega arith
+  lent-entry : (x : ℕ) → x < side → get_or (mid_of from (end - from) w) x 0 ≡ entry_at side w₀ row x
+  lent-entry x h = lent_at from end w x (omega arith) ∙ g.rest (from + x) (omega arith)
 
-    pub row-lent : 0 < length (mid_of from (end - from) w)
-    row-lent = omega (arith, lent_size, row_inside more)
+  module _ {row' : List ℕ} {ok : Bool} (s : RowFilled (mid_of from (end - from) w) row' ok) where
+    pub one_row_more : ok ≡ true → NextRow side w₀ (put_mid from (end - from) w row') (row + 1)
+    one_row_more z = record {
+      long = same_len_mid from (end - from) w row' s.long ∙ g.long;
+      done = λ y h. pick y h (ℕ_discrete y row);
+      rest = λ j h. back-after from end w row' (omega arith) fits whole j (after j h) ∙ g.rest j (omega (arith, after j h));
+    }
+      where
+        whole : length row' ≡ end - from
+        whole = s.long ∙ mid_len from end w fits
 
-    lent-entry : (x : ℕ) → x < side → get_or (mid_of from (end - from) w) x 0 ≡ entry_at side w₀ g.row x
-    lent-entry x h =
-        lent_at from end w x (omega arith)
-        ∙ g.rest (from + x) (omega arith)
-        ∙ ap (λ (k : ℕ). get_or w₀ (k + x) 0) g.place
+        after : (j : ℕ) → (row + 1) * side ≤ j → end ≤ j
+        after j h = omega (arith, row_ends side row)
 
-    module _ {row' : List ℕ} {ok : Bool} (s : RowFilled (mid_of from (end - from) w) row' ok) where
-      pub no_more_rows : ok ≡ false → RowsFilled side w₀ (put_mid from (end - from) w row') false
-      no_more_rows z = record {
-        long = same_len_mid from (end - from) w row' s.long ∙ g.long;
-        told = λ z. absurd (false≢true z);
-        none = λ _. (g.row, row_inside more, sym (lent-entry 0 (omega (arith, row_inside more))) ∙ s.none z);
-      }
+        here : (x : ℕ) → x < side → entry_at side (put_mid from (end - from) w row') row x ≡ from_west (entry_at side w₀ row) x
+        here x h =
+            back_inside from end w row' (omega arith) fits whole x (omega arith)
+            ∙ (s.told z).1 x (omega (arith, lent_size))
+            ∙ from_west_same (λ i. get_or (mid_of from (end - from) w) i 0) (entry_at side w₀ row) x (λ i k. lent-entry i (omega arith))
 
-      pub one_row_more : ok ≡ true → NextRow side w₀ (put_mid from (end - from) w row') (from + side)
-      one_row_more z = record {
-        row = suc g.row;
-        place = omega (arith, g.place, suc-mul g.row side);
-        long = same_len_mid from (end - from) w row' s.long ∙ g.long;
-        done = λ y h. pick y h (ℕ_discrete y g.row);
-        rest = λ j h. back-after from end w row' (omega arith) fits whole j (omega arith) ∙ g.rest j (omega arith);
-      }
-        where
-          fits : end ≤ length w
-          fits = omega (arith, row_fits more)
-
-          whole : length row' ≡ end - from
-          whole = s.long ∙ mid_len from end w fits
-
-          here : (x : ℕ) → x < side → entry_at side (put_mid from (end - from) w row') g.row x ≡ from_west (entry_at side w₀ g.row) x
-          here x h =
-              ap (λ (k : ℕ). get_or (put_mid from (end - from) w row') (k + x) 0) (sym g.place)
-              ∙ back_inside from end w row' (omega arith) fits whole x (omega arith)
-              ∙ (s.told z).1 x (omega (arith, lent_size))
-              ∙ from_west_same (λ i. get_or (mid_of from (end - from) w) i 0) (entry_at side w₀ g.row) x (λ i k. lent-entry i (omega arith))
-
-          pick : (y : ℕ) → y < suc g.row → Dec (y ≡ g.row) → RowTold side w₀ (put_mid from (end - from) w row') y
-          pick y h (yes e) =
-              subst (RowTold side w₀ (put_mid from (end - from) w row')) (sym e)
-              (omega (arith, (s.told z).0, lent-entry 0 (omega (arith, row_inside more))), here)
-          pick y h (no e) =
-              let b : y < g.row = omega arith in (
-                (g.done y b).0,
-                λ x less.
-                    back-before from end w row' (omega arith) fits whole (y * side + x)
-                    (omega (arith, g.place, digits_lt {q = y} {m = g.row} {r = x} {c = side} b less)) ∙ (g.done y b).1 x less,
-              )
+        pick : (y : ℕ) → y < row + 1 → Dec (y ≡ row) → RowTold side w₀ (put_mid from (end - from) w row') y
+        pick y h (yes e) =
+            subst (RowTold side w₀ (put_mid from (end - from) w row')) (sym e)
+            (omega (arith, (s.told z).0, lent-entry 0 (omega arith)), here)
+        pick y h (no e) =
+            let b : y < row = omega arith in (
+              (g.done y b).0,
+              λ x below.
+                  back-before from end w row' (omega arith) fits whole (y * side + x)
+                  (omega (arith, digits_lt {q = y} {m = row} {r = x} {c = side} b below)) ∙ (g.done y b).1 x below,
+            )

@@ -2,7 +2,7 @@
 // owner of its cycle; any other pixel is in the region of its west neighbour.
 #![tactic(auto)]
 
-ghost use Rattle.std.specs.Prelude.{◌≡◌, ◌-◌, ◌*◌, ◌≤◌, ◌<◌, length};
+ghost use Rattle.std.specs.Prelude.{is_some, unwrap_or, ◌≡◌, ◌-◌, ◌*◌, ◌≤◌, ◌<◌, length};
 ghost use Rattle.sequences.specs.Cases.{first};
 ghost use Rattle.lattice.specs.Directions.{point};
 ghost use Rattle.lattice.specs.Walks.{run, straight, outline};
@@ -19,75 +19,51 @@ fn store_north(map: &mut [u32], side: usize, x: usize, from: usize, to: usize, r
     requires { Square side map.old × (x < side) × (from ≤ side) }
     ensures { map.new ≡ stores side r (run 1 (from - to) (point x from)) map.old }
 {
-    let mut y = from;
-    let mut i = from * side + x;
-    while to < y {
-        y -= 1;
-        i -= side;
-        map[i] = r;
+    for y in (to..from).rev() {
+        map[y * side + x] = r;
     }
 }
 
-// Whether edges were stored, and how many northward units may still be, so that legs of any length cost no more than an image has pixels.
-// Where they were not stored, the units and what the map holds are free.
-#[derive(Clone, Copy)]
-struct Left {
-    ok: bool,
-    units: usize,
-}
-
-// Stores r along the leg from the corner p to the corner q, if it goes north. A leg from outside the image is not stored, nor one that is
-// longer than the units.
-fn store_leg(map: &mut [u32], side: usize, p: u32, q: u32, r: u32, units: usize) -> Left
+// Stores r along the leg from the corner p to the corner q, if it goes north. Gives how many northward units may still be stored, so that legs
+// of any length cost no more than an image has pixels. A leg from outside the image is not stored, nor one that is longer than the units: then
+// what the map holds is free.
+fn store_leg(map: &mut [u32], side: usize, p: u32, q: u32, r: u32, units: usize) -> Option<usize>
     requires { Square side map.old }
-    ensures { Stored side r units (straight p q) map.old map.new result.ok result.units }
+    ensures { Stored side r units (straight p q) map.old map.new (is_some result) (unwrap_or result 0) }
 {
     let from = (p / 512) as usize;
     let to = (q / 512) as usize;
     if from <= to {
-        return Left {
-            ok: true,
-            units: units,
-        };
+        return Some(units);
     }
     let x = (p % 512) as usize;
     if side <= x || side < from || units < from - to {
-        return Left {
-            ok: false,
-            units: 0,
-        };
+        return None;
     }
     store_north(map, side, x, from, to, r);
-    Left {
-        ok: true,
-        units: units - (from - to),
-    }
+    Some(units - (from - to))
 }
 
 // Stores r along all northward legs of the outline with these corners; the last leg goes back to the first corner.
-fn store_outline(map: &mut [u32], side: usize, points: &[u32], r: u32, units: usize) -> Left
+fn store_outline(
+    map: &mut [u32],
+    side: usize,
+    points: &[u32],
+    r: u32,
+    units: usize,
+) -> Option<usize>
     requires { Square side map.old }
-    ensures { Stored side r units (outline points.now) map.old map.new result.ok result.units }
+    ensures { Stored side r units (outline points.now) map.old map.new (is_some result) (unwrap_or result 0) }
 {
-    if points.len() == 0 {
-        return Left {
-            ok: true,
-            units: units,
-        };
+    if points.is_empty() {
+        return Some(units);
     }
     let first = points[0];
     let mut p = first;
     let mut left = units;
-    let mut i: usize = 1;
-    while i < points.len() {
-        let q = points[i];
-        let leg = store_leg(map, side, p, q, r, left);
-        if !leg.ok {
-            return leg;
-        }
-        left = leg.units;
+    for &q in &points[1..] {
+        left = store_leg(map, side, p, q, r, left)?;
         p = q;
-        i += 1;
     }
     store_leg(map, side, p, first, r, left)
 }
@@ -107,21 +83,17 @@ fn store_cycles(
         map.old map.new result }
 {
     let mut units = map.len();
-    let mut from: usize = 0;
-    let mut k: usize = 0;
-    while k < ends.len() {
-        let owner = owners[k];
+    let mut from = 0;
+    for (&owner, &end) in owners.iter().zip(ends) {
         if regions <= owner as usize {
             return false;
         }
-        let to = ends[k] as usize;
-        let left = store_outline(map, side, &corners[from..to], owner + 1, units);
-        if !left.ok {
+        let to = end as usize;
+        let Some(left) = store_outline(map, side, &corners[from..to], owner + 1, units) else {
             return false;
-        }
-        units = left.units;
+        };
+        units = left;
         from = to;
-        k += 1;
     }
     true
 }
@@ -142,11 +114,9 @@ fn fill_row(row: &mut [u32]) -> bool
     if west == 0 {
         return false;
     }
-    let mut x: usize = 1;
-    while x < row.len() {
+    for x in 1..row.len() {
         west = own_or_west(row[x], west);
         row[x] = west;
-        x += 1;
     }
     true
 }
@@ -156,13 +126,11 @@ fn fill_rows(map: &mut [u32], side: usize) -> bool
     requires { length map.old ≡ side * side }
     ensures { RowsFilled side map.old map.new result }
 {
-    let mut from: usize = 0;
-    while from < map.len() {
-        let end = from + side;
-        if !fill_row(&mut map[from..end]) {
+    // Not by chunks_exact_mut: once its borrow is over, a proof knows the length of the map alone.
+    for y in 0..side {
+        if !fill_row(&mut map[y * side..(y + 1) * side]) {
             return false;
         }
-        from = end;
     }
     true
 }

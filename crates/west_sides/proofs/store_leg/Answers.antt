@@ -19,9 +19,6 @@ returns-then-side-x c =
       | then-side-x-via-else-side-x+else-side-from+then-units-from w ↦ leg_too_long _ _ _ _ (omega (arith, n)) _ _ _ w.if-units-from.true
     ]
 
-pub store_north-requires : goal.store_north-requires
-store_north-requires c = (c.requires, c.if-side-x.false, c.if-side-from.false)
-
 pub returns : goal.returns
 unfolding x_of y_of
 returns c =

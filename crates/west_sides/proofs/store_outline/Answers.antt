@@ -1,32 +1,25 @@
+-- Each leg leaves one leg less to store; the last goes back to the first corner.
 use native.Mathlib.Omega.{arith}
-use Rattle.std.proofs.lemmas.Bool.{not-true, not-false}
-use Rattle.west_sides.specs.Northward.{still_square}
-use Rattle.west_sides.specs.Outlines.{no_corners, first_leg, one_leg_more, leg_not_stored, closing_leg}
+use Rattle.std.proofs.lemmas.Bool.Decides.{nat_tests}
+use Rattle.std.proofs.Common.{◌-◌, length, drop, length-take, length-drop}
+use Rattle.west_sides.specs.Outlines.{no_corners, first_leg, one_leg_more, leg_not_stored, closing_leg, later_corner}
 use Rattle.west_sides.proofs.store_outline.Goals as goal
 
-pub returns-then-points-eq0 : goal.returns-then-points-eq0
-returns-then-points-eq0 c = no_corners _ _ _ _ _ c.if-points-eq0.true
+pub returns-then-is_empty : goal.returns-then-is_empty
+returns-then-is_empty c = no_corners _ _ _ _ _ (grind (arith, nat_tests))
 
-pub loop-i-init : goal.loop-i-init
-loop-i-init c = first_leg _ _ _ _ _ (omega (arith, c.if-points-eq0.false))
+pub loop-q-init : goal.loop-q-init
+loop-q-init c = first_leg _ _ _ _ _ (grind (arith, nat_tests))
 
-pub store_leg-leg-requires : goal.store_leg-leg-requires
-store_leg-leg-requires c = still_square c.loop-i.invariant.left.long c.requires
+pub returns-in_err-left : goal.returns-in_err-left
+returns-in_err-left c =
+    let next = later_corner c.args.points.now c.loop-q.q-index c.loop-q-test.true in
+    rw c.from_residual.ensures (leg_not_stored c.loop-q.invariant next.0 next.1 c.in_err-left.ensures)
 
-pub returns-then-not-leg : goal.returns-then-not-leg
-returns-then-not-leg c = leg_not_stored c.loop-i.invariant c.loop-i-test.true c.store_leg-leg.ensures (not-true _ c.if-not-leg.true)
-
-pub shape_of-map-then-not-leg : goal.shape_of-map-then-not-leg
-shape_of-map-then-not-leg c = (returns-then-not-leg c).long
-
-pub loop-i-preserved : goal.loop-i-preserved
-loop-i-preserved c = one_leg_more c.loop-i.invariant c.loop-i-test.true c.store_leg-leg.ensures (not-false _ c.if-not-leg.false)
-
-pub store_leg-requires : goal.store_leg-requires
-store_leg-requires c = still_square c.loop-i.invariant.left.long c.requires
+pub loop-q-preserved : goal.loop-q-preserved
+loop-q-preserved c =
+    let next = later_corner c.args.points.now c.loop-q.q-index c.loop-q-test.true in
+    one_leg_more c.loop-q.invariant next.0 next.1 c.in_ok-left.ensures
 
 pub returns : goal.returns
-returns c = closing_leg c.loop-i.invariant (omega (arith, c.loop-i-test.false)) c.store_leg.ensures
-
-pub shape_of-map : goal.shape_of-map
-shape_of-map c = (returns c).long
+returns c = closing_leg c.loop-q.invariant (omega (arith, c.loop-q-test.false, length-take (length c.args.points.now - 1) (drop 1 c.args.points.now), length-drop 1 c.args.points.now)) c.store_leg-2.ensures

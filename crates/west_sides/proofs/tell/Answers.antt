@@ -8,14 +8,8 @@ store_cycles-requires c = cycles_held_lem c.requires c.side-side.ensures c.fill.
 pub returns-then-not-store_cycles : goal.returns-then-not-store_cycles
 returns-then-not-store_cycles c = not_told c.requires c.side-side.ensures c.fill.ensures c.store_cycles.ensures c.if-not-store_cycles.true
 
-pub shape_of-map-then-not-store_cycles : goal.shape_of-map-then-not-store_cycles
-shape_of-map-then-not-store_cycles c = (returns-then-not-store_cycles c).long
-
 pub fill_rows-requires : goal.fill_rows-requires
 fill_rows-requires c = rows_to_fill c.requires c.side-side.ensures c.fill.ensures c.store_cycles.ensures
 
 pub returns : goal.returns
 returns c = rows_tell c.requires c.side-side.ensures c.fill.ensures c.store_cycles.ensures c.if-not-store_cycles.false c.fill_rows.ensures
-
-pub shape_of-map : goal.shape_of-map
-shape_of-map c = (returns c).long

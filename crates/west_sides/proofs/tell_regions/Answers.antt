@@ -14,6 +14,3 @@ tell-requires c = front_tellable c.requires c.pixels-whole.ensures
 
 pub returns : goal.returns
 returns c = front_told c.requires c.pixels-whole.ensures c.tell.ensures
-
-pub shape_of-map : goal.shape_of-map
-shape_of-map c = (returns c).long
