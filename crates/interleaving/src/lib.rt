@@ -55,7 +55,7 @@ fn parted(c: u32) -> u64
     fours(c) as u64 * 0x110_0000
 }
 
-// The first 8 digits of x, and those of y.
+// The first 8 digits of x, and those of y. A const parameter for the place would need a contract for each of its two values: no shorter.
 pub fn column8(c: u32) -> u32
     ensures { result ≡ column 8 c }
 {

@@ -8,5 +8,5 @@ ghost use Rattle.lattice.specs.Directions.{right_of};
 pub fn right(d: u8) -> u8
     ensures { result ≡ right_of d }
 {
-    std::num::wrapping_sub_u8(d, 1) % 4
+    d.wrapping_sub(1) % 4
 }

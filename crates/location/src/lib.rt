@@ -29,7 +29,7 @@ pub fn column(c: u32) -> u16
     (column8(c) + 256 * column8(c / 65536)) as u16
 }
 
-// y of the pixel with code c.
+// y of the pixel with code c. One function for both would take column8 or row8 as a closure, with a contract for each: no shorter.
 pub fn row(c: u32) -> u16
     ensures { result ≡ row 16 c }
 {
@@ -39,21 +39,22 @@ pub fn row(c: u32) -> u16
     (row8(c) + 256 * row8(c / 65536)) as u16
 }
 
-// The side of a block of level l; 0 where it is above 64 bits.
+// The side of a block of level l; 0 where it is above 64 bits, as the promise `side_of` says.
 pub fn side(l: u32) -> usize
     ensures { result ≡ side_of l }
 {
     if l < 64 { 1usize << l } else { 0 }
 }
 
-// The number of pixels of a block of level l; 0 where it is above 64 bits.
+// The number of pixels of a block of level l; 0 where it is above 64 bits, as the promise `pixels_of` says.
 pub fn pixels(l: u32) -> usize
     ensures { result ≡ pixels_of l }
 {
     if l < 32 { 1usize << (2 * l) } else { 0 }
 }
 
-// The place of the pixel with code c in a raster of side 2^n, row by row; 0 where n is above the 16 digits that a code has of each.
+// The place of the pixel with code c in a raster of side 2^n, row by row; 0 where n is above the 16 digits that a code has of each, as the
+// promise `place_of` says.
 pub fn place(n: u32, c: u32) -> usize
     ensures { result ≡ place_of n c }
 {
@@ -69,7 +70,7 @@ pub fn place(n: u32, c: u32) -> usize
 pub fn alignment(c: u32) -> u32
     ensures { result ≡ alignment c }
 {
-    u32::trailing_zeros(c) / 2
+    c.trailing_zeros() / 2
 }
 
 // The largest level of a block at code c, in an image of side 2^n: "half their number, rounded down, and n for code 0". The half is
@@ -80,6 +81,6 @@ pub fn top_level(n: u32, c: u32) -> u32
     if c == 0 {
         return n;
     }
-    let zeros = u32::trailing_zeros(c);
+    let zeros = c.trailing_zeros();
     zeros / 2
 }
