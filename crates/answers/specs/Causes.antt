@@ -1,5 +1,5 @@
 -- The causes of a refusal and their numbers.
-use Rattle.std.specs.Prelude.{ℕ, ◌<◌}
+use Rattle.std.specs.Prelude.{◌≡◌, ℕ, ◌<◌}
 use Rattle.std.proofs.Common.{arith}
 use Rattle.answers.specs.declared.cause.Cause.{Cause}
 
@@ -56,3 +56,6 @@ number-pos Cause.OutsideImage = omega arith
 number-pos Cause.NoSuchCycle = omega arith
 number-pos Cause.AlreadyOpen = omega arith
 number-pos Cause.EightOpen = omega arith
+
+pub number-ne0 : (cause : Cause) → number_of cause ≡ 0 → ⊥
+number-ne0 cause none = omega (arith, number-pos cause)

@@ -1,7 +1,6 @@
 -- The tests stand in the order of causes 1 and 2; the passes over the blocks give 3 to 6, then 7.
-use native.Mathlib.Omega.{arith}
 use mathlib.Core.Path.{sym, refl}
-use Rattle.answers.specs.Causes.{number-pos}
+use Rattle.answers.specs.Causes.{number-ne0}
 use Rattle.answers.specs.Results.{said_on}
 use Rattle.blocks.specs.Checking.{number_large, number-levels_unlike, number-colours_unlike, number-cover, number-siblings, number_accepted}
 use Rattle.blocks.proofs.check.Goals as goal
@@ -22,7 +21,7 @@ pub returns-in_err-cover : goal.returns-in_err-cover
 returns-in_err-cover c =
     rw (said_on _ _ c.from_residual.ensures.1)
     (number-cover _ _ _ _ c.if-n-gt8.false c.if-codes-levels.false c.if-levels-colours.false c.in_err-cover.ensures
-    (λ e. omega (arith, number-pos c.in_err-cover.field-0.0, e)))
+    (number-ne0 c.in_err-cover.field-0.0))
 
 pub siblings-requires : goal.siblings-requires
 siblings-requires c =

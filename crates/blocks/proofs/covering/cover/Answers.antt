@@ -1,7 +1,7 @@
 use Rattle.location.specs.Levels.{pixels_are_power}
 use mathlib.Core.Path.{◌∙◌, refl}
 use native.Mathlib.Omega.{arith}
-use Rattle.answers.specs.Causes.{number-pos}
+use Rattle.answers.specs.Causes.{number-ne0}
 use Rattle.answers.specs.Results.{said_on}
 use Rattle.blocks.specs.Covering.{passed_fault, passed_room, passed_more, passed_short, passed_all}
 use Rattle.blocks.proofs.covering.cover.Goals as goal
@@ -15,7 +15,7 @@ pub returns-in_err-block_fault : goal.returns-in_err-block_fault
 returns-in_err-block_fault c =
     let fault = rw c.from-level.ensures at c.in_err-block_fault.ensures in
     rw (said_on _ _ c.from_residual.ensures.1)
-    (passed_fault c.requires.1 c.loop-i.invariant c.loop-i-test.true fault (λ e. omega (arith, number-pos c.in_err-block_fault.field-0.0, e)))
+    (passed_fault c.requires.1 c.loop-i.invariant c.loop-i-test.true fault (number-ne0 c.in_err-block_fault.field-0.0))
 
 pub overflow_add-sum : goal.overflow_add-sum
 overflow_add-sum c =
