@@ -6,7 +6,6 @@ use Prim.Native.Nat.{◌-◌, ◌≤◌}
 use native.Mathlib.Omega.{arith}
 use lib.ListN.{length, get_or}
 use Rattle.lattice.specs.Walks.{turns}
-use Rattle.answers.specs.Causes.{number_of}
 use Rattle.answers.specs.Answers.{answers_cause, answers_short, answers_all}
 use Rattle.answers.specs.Put.{put_same}
 use Rattle.chains.specs.ChainForm.{chain_form, corners_of, walk, read_number}
@@ -15,14 +14,14 @@ use Rattle.chains.specs.Followed.{said_none, said_some}
 use Rattle.chains.proofs.read_chain.Goals as goal
 
 pub returns-in_default : goal.returns-in_default
-unfolding read_number number_of
+unfolding read_number
 returns-in_default c =
     let a = c.args in
     let none = said_none c.corner_count.ensures c.in_default.is in
     answers_cause 17 (chain_form a.start a.bytes.now) (length (corners_of a.start a.bytes.now)) _ 16 refl none refl refl
 
 pub returns-then-corners-n : goal.returns-then-corners-n
-unfolding read_number number_of
+unfolding read_number
 returns-then-corners-n c =
     let counted : (chain_form c.args.start c.args.bytes.now ≡ true) × (c.in-Some.n ≡ length (corners_of c.args.start c.args.bytes.now)) = said_some c.corner_count.ensures c.in-Some.is in
     let k = counted in
