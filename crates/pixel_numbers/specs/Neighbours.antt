@@ -4,7 +4,7 @@ use Rattle.std.proofs.Common.{sym, ◌∙◌, arith}
 use Rattle.std.proofs.Math.Path.{ap, ap₂, subst, subst₂}
 use mathlib.Core.List.{List}
 use Rattle.std.proofs.Math.Arith.{digits_lt}
-use Rattle.sequences.specs.Powers.{pow2_mono, pow4_mono, square_of_side}
+use Rattle.sequences.specs.Powers.{pow4_mono, square_of_side}
 use Rattle.unions.specs.Pairs.{pair_of}
 use Rattle.unions.specs.Representatives.{join_at}
 use Rattle.unions.specs.Roots.{Low, root}
@@ -12,7 +12,6 @@ use Rattle.unions.specs.Joining.{Forest}
 use Rattle.interleaving.specs.Codes.{code, column, row}
 use Rattle.interleaving.specs.Interleaving.{code_below, column-below, row_below, code_of_coordinates}
 use Rattle.interleaving.specs.Splitting.{code_wider, column_wider, row_wider}
-use Rattle.interleaving.specs.Spreads.{spreads}
 use Rattle.location.specs.Levels.{side_of, pixels_of, side_is_power}
 use Rattle.components.specs.Numbers.{west_of, north_of}
 use Rattle.components.specs.Spans.{join_if_alike, alike_forest, unlike_forest}
@@ -61,9 +60,8 @@ entry {n} {colours} {work} {x} {y} {w} at side =
     is = entry_of_pixel n work x y at.given.mapped at.x_inside at.y_inside
 
 -- The pixel c, of the colour `own`, is to be joined with the pixel (x, y) if that has the colour too.
-pub record PairNext (n : ℕ) (table colours work : List ℕ) (c own x y : ℕ) : Type 0 where
+pub record PairNext (n : ℕ) (colours work : List ℕ) (c own x y : ℕ) : Type 0 where
   pub at : PixelAt n colours work x y
-  pub table_is : table ≡ spreads
   pub low : Low (parents_of n work)
   pub inside : c < 4 ^ n
   pub colour : own ≡ get_or (map_image n colours work) c 0
@@ -73,15 +71,9 @@ pub record PairJoined (n : ℕ) (colours work : List ℕ) (c d : ℕ) (work' : L
   pub only : OnlyParents n work work'
   pub forest : Forest (parents_of n work) (join_if_alike (map_image n colours work) (root (parents_of n work)) c d) (parents_of n work')
 
-module _ {n : ℕ} {table colours work : List ℕ} {c own x y : ℕ} (g : PairNext n table colours work c own x y) where
+module _ {n : ℕ} {colours work : List ℕ} {c own x y : ℕ} (g : PairNext n colours work c own x y) where
   size : n ≤ 8
   size = g.at.given.small
-
-  pub x_byte : x < 256
-  x_byte = omega (arith, g.at.x_inside, pow2_mono size)
-
-  pub y_byte : y < 256
-  y_byte = omega (arith, g.at.y_inside, pow2_mono size)
 
   code_is : code 8 x y ≡ code n x y
   code_is = code_wider n 8 x y size g.at.x_inside g.at.y_inside
@@ -116,9 +108,8 @@ module _ {n : ℕ} {table colours work : List ℕ} {c own x y : ℕ} (g : PairNe
         }
 
 -- The pixel c comes next.
-pub record PixelNext (n : ℕ) (table colours work : List ℕ) (c : ℕ) : Type 0 where
+pub record PixelNext (n : ℕ) (colours work : List ℕ) (c : ℕ) : Type 0 where
   pub given : Comparable n colours work
-  pub table_is : table ≡ spreads
   pub low : Low (parents_of n work)
   pub inside : c < 4 ^ n
 
@@ -130,7 +121,7 @@ pub record PixelJoined (n : ℕ) (colours work : List ℕ) (c : ℕ) (work' : Li
   pub north : Forest (parents_of n work) (join_if_alike (map_image n colours work) (root (parents_of n work)) c (north_of n c)) between
   pub west : Forest between (join_if_alike (map_image n colours work) (root between) c (west_of n c)) (parents_of n work')
 
-module _ {n : ℕ} {table colours work : List ℕ} {c x y : ℕ} (g : PixelNext n table colours work c) (in_column_dec : x ≡ column 8 c) (in_row : y ≡ row 8 c) where
+module _ {n : ℕ} {colours work : List ℕ} {c x y : ℕ} (g : PixelNext n colours work c) (in_column_dec : x ≡ column 8 c) (in_row : y ≡ row 8 c) where
   column-is : x ≡ column n c
   column-is = in_column_dec ∙ column_wider n 8 c g.given.small g.inside
 
@@ -144,24 +135,22 @@ module _ {n : ℕ} {table colours work : List ℕ} {c x y : ℕ} (g : PixelNext 
     own_colour : own ≡ get_or (map_image n colours work) c 0
     own_colour = colour ∙ ap (λ (d : ℕ). get_or (map_image n colours work) d 0) (ap₂ (code n) column-is row_is ∙ code_of_coordinates n c g.inside)
 
-    pub north-next : {v : ℕ} → v ≡ y - 1 → PairNext n table colours work c own x v
+    pub north-next : {v : ℕ} → v ≡ y - 1 → PairNext n colours work c own x v
     north-next e = record {
       at = record { given = g.given; x_inside = own_pixel.x_inside; y_inside = omega (arith, own_pixel.y_inside) };
-      table_is = g.table_is;
       low = g.low;
       inside = g.inside;
       colour = own_colour;
     }
 
     module _ {v : ℕ} {work₁ : List ℕ} (e : v ≡ y - 1) (first : PairJoined n colours work c (code n x v) work₁) where
-      pub west-next : {u : ℕ} → u ≡ x - 1 → PairNext n table colours work₁ c own u y
+      pub west-next : {u : ℕ} → u ≡ x - 1 → PairNext n colours work₁ c own u y
       west-next d = record {
         at = record {
           given = still_comparable first.only g.given;
           x_inside = omega (arith, own_pixel.x_inside);
           y_inside = own_pixel.y_inside;
         };
-        table_is = g.table_is;
         low = first.forest.low;
         inside = g.inside;
         colour = own_colour ∙ ap (λ (px : List ℕ). get_or px c 0) (sym (image_kept first.only colours));

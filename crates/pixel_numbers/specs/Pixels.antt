@@ -12,7 +12,6 @@ use Rattle.unions.specs.Counting.{below, number_of}
 use Rattle.unions.specs.Roots.{Low, root, range_low, range_roots}
 use Rattle.unions.specs.Joining.{Forest}
 use Rattle.unions.specs.RootNumbers.{numbers_below, length-numbers_below, numbers_at}
-use Rattle.interleaving.specs.Spreads.{spreads}
 use Rattle.components.specs.Numbers.{west_of, north_of, pair_if_alike, alike_pairs, numbers, regions}
 use Rattle.components.proofs.Numbered.{length-numbers, number_at, regions_counted_lem}
 use Rattle.components.specs.Spans.{join_if_alike, alike-joined, unlike_kept}
@@ -88,8 +87,8 @@ module _ {n : ℕ} {colours work : List ℕ} (g : AllNext n colours work) where
   }
 
   module _ {work₁ : List ℕ} {c : ℕ} (s : Passed n colours work work₁ c) where
-    pub pixel_next : {table : List ℕ} → table ≡ spreads → c < 4 ^ n → PixelNext n table colours work₁ c
-    pixel_next t h = record { given = still_comparable s.only g.given; table_is = t; low = s.joined.low; inside = h }
+    pub pixel_next : c < 4 ^ n → PixelNext n colours work₁ c
+    pixel_next h = record { given = still_comparable s.only g.given; low = s.joined.low; inside = h }
 
     pub again : {work₂ : List ℕ} → c < 4 ^ n → PixelJoined n colours work₁ c work₂ → Passed n colours work work₂ (c + 1)
     again {work₂} h j =

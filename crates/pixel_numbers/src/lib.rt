@@ -11,7 +11,7 @@ ghost use Rattle.pixel_numbers.specs.Neighbours.{PixelAt, PairNext, PairJoined, 
 ghost use Rattle.pixel_numbers.specs.Pixels.{AllNext, AllJoined};
 ghost use Rattle.pixel_numbers.specs.Comparing.{Numbered};
 
-use interleaving::{code8, column8, row8};
+use interleaving::{Spreads, code8, column8, row8};
 use location::table::spreads;
 
 // The colour of the pixel (x, y): that of its number.
@@ -26,7 +26,7 @@ fn colour_at(n: u32, colours: &[u16], work: &[u32], x: usize, y: usize) -> u16
 // Joins the pixel c, which has the colour `own`, with the pixel (x, y) if that has it too.
 fn join_alike(
     n: u32,
-    table: &[u16; 256],
+    table: &Spreads,
     colours: &[u16],
     work: &mut [u32],
     c: u32,
@@ -34,7 +34,7 @@ fn join_alike(
     x: usize,
     y: usize,
 )
-    requires { PairNext n table.now colours.now work.old c own x y }
+    requires { PairNext n colours.now work.old c own x y }
     ensures { PairJoined n colours.now work.old c (code n x y) work.new }
 {
     if colour_at(n, colours, work, x, y) == own {
@@ -43,26 +43,17 @@ fn join_alike(
     }
 }
 
-// The column or row before i; 0 before 0, so that a pixel at the image's edge is taken for its own neighbour.
-fn previous(i: usize) -> usize
-    ensures { result ≡ i - 1 }
-{
-    if i == 0 {
-        return 0;
-    }
-    i - 1
-}
-
-// Joins the pixel c with its north and its west neighbour, where these have its colour.
-fn join_pixel(n: u32, table: &[u16; 256], colours: &[u16], work: &mut [u32], c: u32)
-    requires { PixelNext n table.now colours.now work.old c }
+// Joins the pixel c with its north and its west neighbour, where these have its colour. A pixel at the image's edge is taken for its own
+// neighbour.
+fn join_pixel(n: u32, table: &Spreads, colours: &[u16], work: &mut [u32], c: u32)
+    requires { PixelNext n colours.now work.old c }
     ensures { PixelJoined n colours.now work.old c work.new }
 {
     let x = column8(c) as usize;
     let y = row8(c) as usize;
     let own = colour_at(n, colours, work, x, y);
-    join_alike(n, table, colours, work, c, own, x, previous(y));
-    join_alike(n, table, colours, work, c, own, previous(x), y);
+    join_alike(n, table, colours, work, c, own, x, y.saturating_sub(1));
+    join_alike(n, table, colours, work, c, own, x.saturating_sub(1), y);
 }
 
 // Joins all pixels with their neighbours of one colour, in rising location code.
@@ -72,10 +63,8 @@ fn join_pixels(n: u32, colours: &[u16], work: &mut [u32])
 {
     let end = location::pixels(n) as u32;
     let table = spreads();
-    let mut c: u32 = 0;
-    while c < end {
+    for c in 0..end {
         join_pixel(n, &table, colours, work, c);
-        c += 1;
     }
 }
 
@@ -85,12 +74,10 @@ fn same_numbers(n: u32, work: &[u32]) -> bool
     ensures { (result ≡ true) ↔ (parents_of n work.now ≡ nums_of n work.now) }
 {
     let whole = location::pixels(n);
-    let mut c: usize = 0;
-    while c < whole {
+    for c in 0..whole {
         if work[whole + c] != work[location::place(n, c as u32)] - 1 {
             return false;
         }
-        c += 1;
     }
     true
 }

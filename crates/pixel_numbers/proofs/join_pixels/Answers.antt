@@ -1,3 +1,4 @@
+-- Each pixel in turn is joined with its neighbours.
 use Prim.Native.Nat.{◌^◌, ◌<◌}
 use native.Mathlib.Omega.{arith}
 use Rattle.pixel_numbers.specs.Parents.{whole_is, part_inside}
@@ -13,23 +14,12 @@ loop-c-init c = begin c.requires
 pub join_pixel-requires : goal.join_pixel-requires
 join_pixel-requires c =
     let inside : c.loop-c.c < 4 ^ c.args.n = omega (arith, whole_is c.requires.given.small c.pixels-end.ensures, c.loop-c-test.true) in
-    pixel_next c.requires c.loop-c.invariant c.spreads-table.ensures inside
-
-pub overflow_add-c : goal.overflow_add-c
-overflow_add-c c =
-    let g = c.requires.given in
-    omega (arith, c.loop-c-test.true, (part_inside g.small c.pixels-end.ensures g.room).0)
-
-pub loop-c-smaller : goal.loop-c-smaller
-loop-c-smaller c = omega (arith, c.loop-c-test.true)
+    pixel_next c.requires c.loop-c.invariant inside
 
 pub loop-c-preserved : goal.loop-c-preserved
 loop-c-preserved c =
     let inside : c.loop-c.c < 4 ^ c.args.n = omega (arith, whole_is c.requires.given.small c.pixels-end.ensures, c.loop-c-test.true) in
     again c.requires c.loop-c.invariant inside c.join_pixel.ensures
-
-pub shape_of-work : goal.shape_of-work
-shape_of-work c = c.loop-c.invariant.only.long
 
 pub returns : goal.returns
 returns c =

@@ -1,10 +1,6 @@
--- The loop's invariant: the pixels with codes below c are joined with their neighbours. The measure is the pixels left.
-use Prim.Native.Nat.{◌-◌}
+-- The loop's invariant: the pixels with codes below c are joined with their neighbours.
 use Rattle.pixel_numbers.specs.Pixels.{Passed}
 use Rattle.pixel_numbers.proofs.join_pixels.Given as goal
 
 abbrev pub invariant-loop-c : goal.invariant-loop-c
 invariant-loop-c l = Passed l.n l.colours l.initial.work l.work l.c
-
-abbrev pub decreases-loop-c : goal.decreases-loop-c
-decreases-loop-c l = l.end - l.c

@@ -1,25 +1,23 @@
 -- `numbers_agree` meets its contract: each pixel its own parent, all joined with their neighbours of one colour, the roots numbered and
 -- counted; then the count and the numbers are compared.
-use Prim.Native.Nat.{◌*◌, ◌≤◌}
 use native.Mathlib.Omega.{arith}
-use lib.ListN.{length}
 use Rattle.pixel_numbers.specs.Parents.{part_inside}
-use Rattle.pixel_numbers.specs.Answer.{few_lent, all_next, roots_inside, roots_lent, count_differs, numbered, count_agrees}
+use Rattle.pixel_numbers.specs.Answer.{few_lent, all_next, roots_lent, count_differs, numbered, count_agrees}
 use Rattle.pixel_numbers.proofs.numbers_agree.Goals as goal
 
 pub overflow_mul-whole : goal.overflow_mul-whole
 overflow_mul-whole c =
-    let inside : (c.pixels-whole.result ≤ 65536) × (2 * c.pixels-whole.result ≤ length c.args.work.now) = let g = c.requires in part_inside g.small c.pixels-whole.ensures g.room in
+    let inside = part_inside c.requires.small c.pixels-whole.ensures c.requires.room in
     omega (arith, inside.0)
 
 pub offset_bounds-work-whole : goal.offset_bounds-work-whole
 offset_bounds-work-whole c =
-    let inside : (c.pixels-whole.result ≤ 65536) × (2 * c.pixels-whole.result ≤ length c.args.work.now) = let g = c.requires in part_inside g.small c.pixels-whole.ensures g.room in
+    let inside = part_inside c.requires.small c.pixels-whole.ensures c.requires.room in
     omega (arith, inside.0)
 
 pub slice_bounds-own_parents-end : goal.slice_bounds-own_parents-end
 slice_bounds-own_parents-end c =
-    let inside : (c.pixels-whole.result ≤ 65536) × (2 * c.pixels-whole.result ≤ length c.args.work.now) = let g = c.requires in part_inside g.small c.pixels-whole.ensures g.room in
+    let inside = part_inside c.requires.small c.pixels-whole.ensures c.requires.room in
     inside.1
 
 pub own_parents-requires : goal.own_parents-requires
@@ -27,19 +25,6 @@ own_parents-requires c = few_lent c.requires c.pixels-whole.ensures
 
 pub join_pixels-requires : goal.join_pixels-requires
 join_pixels-requires c = all_next c.requires c.pixels-whole.ensures c.own_parents.ensures
-
-pub overflow_mul-whole-2 : goal.overflow_mul-whole-2
-overflow_mul-whole-2 c =
-    let inside : (c.pixels-whole.result ≤ 65536) × (2 * c.pixels-whole.result ≤ length c.args.work.now) = let g = c.requires in part_inside g.small c.pixels-whole.ensures g.room in
-    omega (arith, inside.0)
-
-pub offset_bounds-work-whole-2 : goal.offset_bounds-work-whole-2
-offset_bounds-work-whole-2 c =
-    let inside : (c.pixels-whole.result ≤ 65536) × (2 * c.pixels-whole.result ≤ length c.args.work.now) = let g = c.requires in part_inside g.small c.pixels-whole.ensures g.room in
-    omega (arith, inside.0)
-
-pub slice_bounds-number_all-end : goal.slice_bounds-number_all-end
-slice_bounds-number_all-end c = roots_inside c.requires c.pixels-whole.ensures c.own_parents.ensures c.join_pixels.ensures
 
 pub number_all-count-requires : goal.number_all-count-requires
 number_all-count-requires c = roots_lent c.requires c.pixels-whole.ensures c.own_parents.ensures c.join_pixels.ensures
