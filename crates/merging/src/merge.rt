@@ -1,9 +1,9 @@
 // A raster merged into blocks: from each code on the largest block of one colour that may start there.
-ghost use Rattle.std.specs.Prelude.{◌≡◌, ◌+◌, ◌^◌, ◌<◌, length};
+ghost use Rattle.std.specs.Prelude.{◌≡◌, ◌+◌, ◌^◌, ◌<◌, slice_index};
 ghost use Rattle.quadtree.specs.Raster.{in_code_order};
 ghost use Rattle.quadtree.specs.Merging.{block_from};
 ghost use Rattle.squares.specs.Fours.{four_stored};
-ghost use Rattle.merging.specs.MergeLoop.{RasterOf, BlocksFit, Merged};
+ghost use Rattle.merging.specs.MergeLoop.{RasterOf, BlocksFit, FourTurn, Merged};
 
 use squares::store_four;
 use uniform::others_alike;
@@ -18,36 +18,45 @@ fn level_at(n: u32, raster: &[u16], c: u32) -> u32
     let w = location::side(n);
     let at = location::place(n, c);
     let v = raster[at];
-    let mut l: u32 = 0;
-    while l < top {
+    for l in 0..top {
         if !others_alike(raster, w, at, location::side(l), v) {
             return l;
         }
-        l += 1;
     }
-    l
+    top
 }
 
-// Writes four successive codes.
-fn store_codes(codes: &mut [u32], at: usize, c: u32)
-    requires { (at + 3 < length codes.old) × (c < 65536) }
-    ensures { codes.new ≡ four_stored 2 at c (c + 1) (c + 2) (c + 3) codes.old }
+// Writes the four single pixels from the code c on, the first at the place `at` of the raster, in rows of w.
+fn write_four(
+    raster: &[u16],
+    w: usize,
+    at: usize,
+    c: u32,
+    count: usize,
+    codes: &mut [u32],
+    levels: &mut [u8],
+    colours: &mut [u16],
+)
+    requires { FourTurn raster.now codes.old levels.old colours.old count c at w }
+    ensures codes { codes.new ≡ four_stored 2 count c (c + 1) (c + 2) (c + 3) codes.old }
+    ensures levels { levels.new ≡ four_stored 2 count 0 0 0 0 levels.old }
+    ensures colours { colours.new
+        ≡ four_stored 2 count
+        (slice_index raster.now at) (slice_index raster.now (at + 1))
+        (slice_index raster.now (at + w)) (slice_index raster.now (at + w + 1))
+        colours.old }
 {
-    codes[at] = c;
-    codes[at + 1] = c + 1;
-    codes[at + 2] = c + 2;
-    codes[at + 3] = c + 3;
-}
-
-// Writes the levels of four single pixels.
-fn store_levels(levels: &mut [u8], at: usize)
-    requires { at + 3 < length levels.old }
-    ensures { levels.new ≡ four_stored 2 at 0 0 0 0 levels.old }
-{
-    levels[at] = 0;
-    levels[at + 1] = 0;
-    levels[at + 2] = 0;
-    levels[at + 3] = 0;
+    store_four(codes, 2, count, c, c + 1, c + 2, c + 3);
+    store_four(levels, 2, count, 0, 0, 0, 0);
+    store_four(
+        colours,
+        2,
+        count,
+        raster[at],
+        raster[at + 1],
+        raster[at + w],
+        raster[at + w + 1],
+    );
 }
 
 // Writes the blocks of the raster and returns their number. Single pixels come by fours from a multiple of 4 on, written at
@@ -66,28 +75,17 @@ pub(crate) fn merge(
 {
     let w = location::side(n);
     let mut count: usize = 0;
+    // The step is each block's size, so the code is counted by hand.
     let mut c: usize = 0;
     while c < raster.len() {
         let code = c as u32;
         let level = level_at(n, raster, code);
         let at = location::place(n, code);
-        if level + code % 4 == 0 {
-            if 0 < n {
-                store_codes(codes, count, code);
-                store_levels(levels, count);
-                store_four(
-                    colours,
-                    2,
-                    count,
-                    raster[at],
-                    raster[at + 1],
-                    raster[at + w],
-                    raster[at + w + 1],
-                );
-                count += 4;
-                c += 4;
-                continue;
-            }
+        if level + code % 4 == 0 && 0 < n {
+            write_four(raster, w, at, code, count, codes, levels, colours);
+            count += 4;
+            c += 4;
+            continue;
         }
         codes[count] = code;
         levels[count] = level as u8;

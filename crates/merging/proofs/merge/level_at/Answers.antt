@@ -1,5 +1,5 @@
-use mathlib.Core.Path.{◌≡◌, refl}
-use Prim.Native.Nat.{◌-◌}
+-- A block grows while the squares beside it have its colour.
+use mathlib.Core.Path.{◌≡◌, ◌∙◌, refl}
 use native.Mathlib.Omega.{arith}
 use Rattle.quadtree.specs.Raster.{place}
 use Rattle.merging.specs.Growth.{code_placed, place_read, place_low, growth_none, growth_fits, growth_more, growth_stops, growth_full}
@@ -34,4 +34,6 @@ loop-l-preserved c =
     c.others_alike.ensures c.if-not-others_alike.false
 
 pub returns : goal.returns
-returns c = growth_full c.requires.0 c.requires.1 c.loop-l.invariant c.loop-l-test.false
+returns c =
+    let all : c.top_level-top.result ≡ c.loop-l.l = omega arith in
+    all ∙ growth_full c.requires.0 c.requires.1 c.loop-l.invariant c.loop-l-test.false

@@ -3,7 +3,7 @@ use Rattle.merging.specs.Growth.{code_placed, place_read, place_low}
 use Rattle.quadtree.specs.Raster.{place}
 use Rattle.sequences.specs.Powers.{pow4_mono}
 use mathlib.Core.Path.{◌≡◌, ap}
-use Prim.Native.Nat.{◌-◌, ◌^◌, ◌<◌}
+use Prim.Native.Nat.{◌^◌, ◌<◌}
 use native.Mathlib.Omega.{arith}
 use lib.ListN.{get_or}
 use Rattle.merging.proofs.merge.merge.Goals as goal
@@ -26,140 +26,12 @@ overflow_add-level c =
     let one : let l = c.loop-c in let a = c.args in Turn a.n a.raster.now l.codes l.levels l.colours l.count l.c c.level_at-level.result = turn c.requires c.loop-c.invariant c.loop-c-test.true c.level_at-level.ensures in
     omega (arith, one)
 
-pub store_codes-requires : goal.store_codes-requires
-store_codes-requires c =
+pub write_four-requires : goal.write_four-requires
+write_four-requires c =
     let inside : c.loop-c.c < 4 ^ c.args.n = in_image c.requires c.loop-c.invariant c.loop-c-test.true in
     let placed : c.place-at.result ≡ place c.args.n c.loop-c.c = code_placed (raster_of c.requires) inside c.place-at.ensures in
-    let four : let l = c.loop-c in FourTurn c.args.raster.now l.codes l.levels l.colours l.count l.c c.place-at.result c.side-w.result =
     four_turn c.requires c.loop-c.invariant c.loop-c-test.true c.level_at-level.ensures placed c.side-w.ensures
-    c.if-level-code-eq0.true c.if-n-gt0.true in
-    let t = four in (t.in_codes, omega (arith, t))
-
-pub store_levels-requires : goal.store_levels-requires
-store_levels-requires c =
-    let inside : c.loop-c.c < 4 ^ c.args.n = in_image c.requires c.loop-c.invariant c.loop-c-test.true in
-    let placed : c.place-at.result ≡ place c.args.n c.loop-c.c = code_placed (raster_of c.requires) inside c.place-at.ensures in
-    let four : let l = c.loop-c in FourTurn c.args.raster.now l.codes l.levels l.colours l.count l.c c.place-at.result c.side-w.result =
-    four_turn c.requires c.loop-c.invariant c.loop-c-test.true c.level_at-level.ensures placed c.side-w.ensures
-    c.if-level-code-eq0.true c.if-n-gt0.true in
-    omega (arith, four)
-
-pub offset_bounds-raster-at : goal.offset_bounds-raster-at
-offset_bounds-raster-at c =
-    let inside : c.loop-c.c < 4 ^ c.args.n = in_image c.requires c.loop-c.invariant c.loop-c-test.true in
-    let placed : c.place-at.result ≡ place c.args.n c.loop-c.c = code_placed (raster_of c.requires) inside c.place-at.ensures in
-    let four : let l = c.loop-c in FourTurn c.args.raster.now l.codes l.levels l.colours l.count l.c c.place-at.result c.side-w.result =
-    four_turn c.requires c.loop-c.invariant c.loop-c-test.true c.level_at-level.ensures placed c.side-w.ensures
-    c.if-level-code-eq0.true c.if-n-gt0.true in
-    omega (arith, four)
-
-pub bounds-raster-at : goal.bounds-raster-at
-bounds-raster-at c =
-    let inside : c.loop-c.c < 4 ^ c.args.n = in_image c.requires c.loop-c.invariant c.loop-c-test.true in
-    let placed : c.place-at.result ≡ place c.args.n c.loop-c.c = code_placed (raster_of c.requires) inside c.place-at.ensures in
-    let four : let l = c.loop-c in FourTurn c.args.raster.now l.codes l.levels l.colours l.count l.c c.place-at.result c.side-w.result =
-    four_turn c.requires c.loop-c.invariant c.loop-c-test.true c.level_at-level.ensures placed c.side-w.ensures
-    c.if-level-code-eq0.true c.if-n-gt0.true in
-    omega (arith, four)
-
-pub overflow_add-at : goal.overflow_add-at
-overflow_add-at c =
-    let inside : c.loop-c.c < 4 ^ c.args.n = in_image c.requires c.loop-c.invariant c.loop-c-test.true in
-    let placed : c.place-at.result ≡ place c.args.n c.loop-c.c = code_placed (raster_of c.requires) inside c.place-at.ensures in
-    let four : let l = c.loop-c in FourTurn c.args.raster.now l.codes l.levels l.colours l.count l.c c.place-at.result c.side-w.result =
-    four_turn c.requires c.loop-c.invariant c.loop-c-test.true c.level_at-level.ensures placed c.side-w.ensures
-    c.if-level-code-eq0.true c.if-n-gt0.true in
-    omega (arith, four)
-
-pub offset_bounds-raster-at-then-n-gt0 : goal.offset_bounds-raster-at-then-n-gt0
-offset_bounds-raster-at-then-n-gt0 c =
-    let inside : c.loop-c.c < 4 ^ c.args.n = in_image c.requires c.loop-c.invariant c.loop-c-test.true in
-    let placed : c.place-at.result ≡ place c.args.n c.loop-c.c = code_placed (raster_of c.requires) inside c.place-at.ensures in
-    let four : let l = c.loop-c in FourTurn c.args.raster.now l.codes l.levels l.colours l.count l.c c.place-at.result c.side-w.result =
-    four_turn c.requires c.loop-c.invariant c.loop-c-test.true c.level_at-level.ensures placed c.side-w.ensures
-    c.if-level-code-eq0.true c.if-n-gt0.true in
-    omega (arith, four)
-
-pub bounds-raster-at-then-n-gt0 : goal.bounds-raster-at-then-n-gt0
-bounds-raster-at-then-n-gt0 c =
-    let inside : c.loop-c.c < 4 ^ c.args.n = in_image c.requires c.loop-c.invariant c.loop-c-test.true in
-    let placed : c.place-at.result ≡ place c.args.n c.loop-c.c = code_placed (raster_of c.requires) inside c.place-at.ensures in
-    let four : let l = c.loop-c in FourTurn c.args.raster.now l.codes l.levels l.colours l.count l.c c.place-at.result c.side-w.result =
-    four_turn c.requires c.loop-c.invariant c.loop-c-test.true c.level_at-level.ensures placed c.side-w.ensures
-    c.if-level-code-eq0.true c.if-n-gt0.true in
-    omega (arith, four)
-
-pub overflow_add-at-then-n-gt0 : goal.overflow_add-at-then-n-gt0
-overflow_add-at-then-n-gt0 c =
-    let inside : c.loop-c.c < 4 ^ c.args.n = in_image c.requires c.loop-c.invariant c.loop-c-test.true in
-    let placed : c.place-at.result ≡ place c.args.n c.loop-c.c = code_placed (raster_of c.requires) inside c.place-at.ensures in
-    let four : let l = c.loop-c in FourTurn c.args.raster.now l.codes l.levels l.colours l.count l.c c.place-at.result c.side-w.result =
-    four_turn c.requires c.loop-c.invariant c.loop-c-test.true c.level_at-level.ensures placed c.side-w.ensures
-    c.if-level-code-eq0.true c.if-n-gt0.true in
-    omega (arith, four)
-
-pub offset_bounds-raster-at-then-n-gt0-2 : goal.offset_bounds-raster-at-then-n-gt0-2
-offset_bounds-raster-at-then-n-gt0-2 c =
-    let inside : c.loop-c.c < 4 ^ c.args.n = in_image c.requires c.loop-c.invariant c.loop-c-test.true in
-    let placed : c.place-at.result ≡ place c.args.n c.loop-c.c = code_placed (raster_of c.requires) inside c.place-at.ensures in
-    let four : let l = c.loop-c in FourTurn c.args.raster.now l.codes l.levels l.colours l.count l.c c.place-at.result c.side-w.result =
-    four_turn c.requires c.loop-c.invariant c.loop-c-test.true c.level_at-level.ensures placed c.side-w.ensures
-    c.if-level-code-eq0.true c.if-n-gt0.true in
-    omega (arith, four)
-
-pub bounds-raster-at-then-n-gt0-2 : goal.bounds-raster-at-then-n-gt0-2
-bounds-raster-at-then-n-gt0-2 c =
-    let inside : c.loop-c.c < 4 ^ c.args.n = in_image c.requires c.loop-c.invariant c.loop-c-test.true in
-    let placed : c.place-at.result ≡ place c.args.n c.loop-c.c = code_placed (raster_of c.requires) inside c.place-at.ensures in
-    let four : let l = c.loop-c in FourTurn c.args.raster.now l.codes l.levels l.colours l.count l.c c.place-at.result c.side-w.result =
-    four_turn c.requires c.loop-c.invariant c.loop-c-test.true c.level_at-level.ensures placed c.side-w.ensures
-    c.if-level-code-eq0.true c.if-n-gt0.true in
-    omega (arith, four)
-
-pub overflow_add-at-then-n-gt0-2 : goal.overflow_add-at-then-n-gt0-2
-overflow_add-at-then-n-gt0-2 c =
-    let inside : c.loop-c.c < 4 ^ c.args.n = in_image c.requires c.loop-c.invariant c.loop-c-test.true in
-    let placed : c.place-at.result ≡ place c.args.n c.loop-c.c = code_placed (raster_of c.requires) inside c.place-at.ensures in
-    let four : let l = c.loop-c in FourTurn c.args.raster.now l.codes l.levels l.colours l.count l.c c.place-at.result c.side-w.result =
-    four_turn c.requires c.loop-c.invariant c.loop-c-test.true c.level_at-level.ensures placed c.side-w.ensures
-    c.if-level-code-eq0.true c.if-n-gt0.true in
-    omega (arith, four)
-
-pub overflow_add-at-then-n-gt0-3 : goal.overflow_add-at-then-n-gt0-3
-overflow_add-at-then-n-gt0-3 c =
-    let inside : c.loop-c.c < 4 ^ c.args.n = in_image c.requires c.loop-c.invariant c.loop-c-test.true in
-    let placed : c.place-at.result ≡ place c.args.n c.loop-c.c = code_placed (raster_of c.requires) inside c.place-at.ensures in
-    let four : let l = c.loop-c in FourTurn c.args.raster.now l.codes l.levels l.colours l.count l.c c.place-at.result c.side-w.result =
-    four_turn c.requires c.loop-c.invariant c.loop-c-test.true c.level_at-level.ensures placed c.side-w.ensures
-    c.if-level-code-eq0.true c.if-n-gt0.true in
-    omega (arith, four)
-
-pub offset_bounds-raster-at-then-n-gt0-3 : goal.offset_bounds-raster-at-then-n-gt0-3
-offset_bounds-raster-at-then-n-gt0-3 c =
-    let inside : c.loop-c.c < 4 ^ c.args.n = in_image c.requires c.loop-c.invariant c.loop-c-test.true in
-    let placed : c.place-at.result ≡ place c.args.n c.loop-c.c = code_placed (raster_of c.requires) inside c.place-at.ensures in
-    let four : let l = c.loop-c in FourTurn c.args.raster.now l.codes l.levels l.colours l.count l.c c.place-at.result c.side-w.result =
-    four_turn c.requires c.loop-c.invariant c.loop-c-test.true c.level_at-level.ensures placed c.side-w.ensures
-    c.if-level-code-eq0.true c.if-n-gt0.true in
-    omega (arith, four)
-
-pub bounds-raster-at-then-n-gt0-3 : goal.bounds-raster-at-then-n-gt0-3
-bounds-raster-at-then-n-gt0-3 c =
-    let inside : c.loop-c.c < 4 ^ c.args.n = in_image c.requires c.loop-c.invariant c.loop-c-test.true in
-    let placed : c.place-at.result ≡ place c.args.n c.loop-c.c = code_placed (raster_of c.requires) inside c.place-at.ensures in
-    let four : let l = c.loop-c in FourTurn c.args.raster.now l.codes l.levels l.colours l.count l.c c.place-at.result c.side-w.result =
-    four_turn c.requires c.loop-c.invariant c.loop-c-test.true c.level_at-level.ensures placed c.side-w.ensures
-    c.if-level-code-eq0.true c.if-n-gt0.true in
-    omega (arith, four)
-
-pub store_four-requires : goal.store_four-requires
-store_four-requires c =
-    let inside : c.loop-c.c < 4 ^ c.args.n = in_image c.requires c.loop-c.invariant c.loop-c-test.true in
-    let placed : c.place-at.result ≡ place c.args.n c.loop-c.c = code_placed (raster_of c.requires) inside c.place-at.ensures in
-    let four : let l = c.loop-c in FourTurn c.args.raster.now l.codes l.levels l.colours l.count l.c c.place-at.result c.side-w.result =
-    four_turn c.requires c.loop-c.invariant c.loop-c-test.true c.level_at-level.ensures placed c.side-w.ensures
-    c.if-level-code-eq0.true c.if-n-gt0.true in
-    (omega arith, omega (arith, four))
+    c.if-level-code-eq0.true c.if-n-gt0.true
 
 pub overflow_add-count : goal.overflow_add-count
 overflow_add-count c =
@@ -193,7 +65,7 @@ loop-c-preserved-then-n-gt0 c =
     let inside : c.loop-c.c < 4 ^ c.args.n = in_image c.requires c.loop-c.invariant c.loop-c-test.true in
     let placed : c.place-at.result ≡ place c.args.n c.loop-c.c = code_placed (raster_of c.requires) inside c.place-at.ensures in
     merging_four c.requires c.loop-c.invariant c.loop-c-test.true c.level_at-level.ensures placed c.side-w.ensures
-    c.if-level-code-eq0.true c.if-n-gt0.true c.store_codes.ensures c.store_levels.ensures c.store_four.ensures
+    c.if-level-code-eq0.true c.if-n-gt0.true c.write_four.ensures.codes c.write_four.ensures.levels c.write_four.ensures.colours
 
 pub offset_bounds-codes-count : goal.offset_bounds-codes-count
 offset_bounds-codes-count c =
@@ -215,14 +87,14 @@ bounds-levels-count c =
     let one : let l = c.loop-c in let a = c.args in Turn a.n a.raster.now l.codes l.levels l.colours l.count l.c c.level_at-level.result = turn c.requires c.loop-c.invariant c.loop-c-test.true c.level_at-level.ensures in
     one.in_levels
 
-pub offset_bounds-raster-at-in-loop-c : goal.offset_bounds-raster-at-in-loop-c
-offset_bounds-raster-at-in-loop-c c =
+pub offset_bounds-raster-at : goal.offset_bounds-raster-at
+offset_bounds-raster-at c =
     let inside : c.loop-c.c < 4 ^ c.args.n = in_image c.requires c.loop-c.invariant c.loop-c-test.true in
     let placed : c.place-at.result ≡ place c.args.n c.loop-c.c = code_placed (raster_of c.requires) inside c.place-at.ensures in
     omega (arith, place_low (raster_of c.requires) inside placed)
 
-pub bounds-raster-at-in-loop-c : goal.bounds-raster-at-in-loop-c
-bounds-raster-at-in-loop-c c =
+pub bounds-raster-at : goal.bounds-raster-at
+bounds-raster-at c =
     let inside : c.loop-c.c < 4 ^ c.args.n = in_image c.requires c.loop-c.invariant c.loop-c-test.true in
     let placed : c.place-at.result ≡ place c.args.n c.loop-c.c = code_placed (raster_of c.requires) inside c.place-at.ensures in
     place_read (raster_of c.requires) inside placed
