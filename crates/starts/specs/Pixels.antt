@@ -1,5 +1,5 @@
 -- One pixel of the listing: where its north side is an edge without a mark a cycle is written, else nothing.
-use Rattle.std.specs.Prelude.{◌≡◌, refl, Bool, ℕ, ◌+◌, ◌-◌, ◌*◌, ◌^◌, ◌≤◌, ◌<◌, drop, get_or, ℤ}
+use Rattle.std.specs.Prelude.{◌≡◌, refl, Bool, ℕ, suc, ◌+◌, ◌-◌, ◌*◌, ◌^◌, ◌≤◌, ◌<◌, drop, get_or, ℤ}
 use Rattle.std.proofs.Math.Path.{sym, ap, ap₂, subst}
 use Rattle.std.proofs.Common.{◌∙◌, inl, inr, length-drop}
 use Rattle.std.proofs.Math.Bool.{true, false}
@@ -30,6 +30,15 @@ pub record PixelNext (n x y : ℕ) (s : State) : Type 0 where
   pub x_inside : x < 2 ^ n
   pub y_inside : y < 2 ^ n
   pub next : PixelsNext n (code n x y ∷ []) s
+
+-- The lent lists have room for one cycle more, of k corners.
+pub record OneMore (s : State) (k : ℕ) : Type 0 where
+  pub few : s.cycles < 65536
+  pub owner : s.cycles < length s.owned
+  pub end : s.cycles < length s.ended
+  pub area : s.cycles < length s.sums
+  pub inside : s.corners ≤ length s.points
+  pub low : s.corners + k ≤ 262144
 
 module _ {n x y : ℕ} {s : State} (ok : PixelNext n x y s) where
   abbrev nums : List ℕ
@@ -176,3 +185,15 @@ module _ {n x y : ℕ} {s : State} (ok : PixelNext n x y s) where
             beyond = w.beyond;
           };
         }
+
+  pub one_more : {region : ℕ} → Tells n s.work (code n x y) (suc region) → OneMore s (length (corners (cycle n nums (code n x y))))
+  one_more {region} t =
+      let some : suc region ≡ 0 → ⊥ = λ e. omega arith in
+      record {
+        few = cycles_small t some;
+        owner = owners-below t some;
+        end = ends-below t some;
+        area = areas-below t some;
+        inside = corners-inside t some;
+        low = corners_small t some;
+      }

@@ -1,5 +1,5 @@
 -- A pixel whose north side is an edge without a mark: how the map tells it.
-use Rattle.std.specs.Prelude.{◌≡◌, refl, ◌≢◌, ◌⊎◌, List, ℕ, suc, ◌+◌, ◌-◌, ◌*◌, ◌%◌, ◌^◌, ◌≤◌, ◌<◌, length}
+use Rattle.std.specs.Prelude.{◌≡◌, refl, ◌≢◌, ◌⊎◌, List, Option, Some, None, ℕ, suc, ◌+◌, ◌-◌, ◌*◌, ◌%◌, ◌^◌, ◌≤◌, ◌<◌, length}
 use Rattle.std.proofs.Math.Path.{sym, subst}
 use Rattle.std.proofs.Common.{ap, ap₂, ◌∙◌, add-mul}
 use Rattle.std.proofs.Math.Logic.{inl, inr}
@@ -40,6 +40,11 @@ pub record Unmarked (n : ℕ) (map : List ℕ) (c r : ℕ) : Type 0 where
 -- The answer r tells which: 0 where the north side is no edge or bears a mark.
 abbrev pub Tells : ℕ → List ℕ → ℕ → ℕ → Type 0
 Tells n map c r = Unmarked n map c r ⊎ ((r ≡ 0) × (NorthEdge n (nums_of n map) c → ¬ Marked n map c → ⊥))
+
+-- The answer as that number: 1 plus the region, 0 for none.
+abbrev pub told : Option ℕ → ℕ
+told None = 0
+told (Some region) = suc region
 
 module _ {n : ℕ} {map : List ℕ} {x y : ℕ} (ok : PixelOf n map x y) where
   pub place-below : y * 2 ^ n + x < 4 ^ n
@@ -140,3 +145,13 @@ module _ {n : ℕ} {map : List ℕ} {x y : ℕ} (ok : PixelOf n map x y) {side :
 
   pub row_above_entry : (y ≡ 0 → ⊥) → side ≤ y * side + x
   row_above_entry some = rw wide (row_above ok some)
+
+  -- The entry of a pixel of the map is at least 1.
+  pub number_low : 1 ≤ get_or map (y * side + x) 0
+  number_low = rw wide (omega (arith, here ok))
+
+  -- The entry tells the region as the number below it.
+  pub region_told : Tells n map (code n x y) (get_or map (y * side + x) 0) → Tells n map (code n x y) (suc (get_or map (y * side + x) 0 - 1))
+  region_told t =
+      let e : get_or map (y * side + x) 0 ≡ suc (get_or map (y * side + x) 0 - 1) = omega (arith, number_low) in
+      subst (λ r. Tells n map (code n x y) r) e t

@@ -4,7 +4,7 @@
 ghost use Rattle.std.specs.Prelude.{◌∷◌, []};
 ghost use Rattle.interleaving.specs.Codes.{code};
 ghost use Rattle.links.specs.TopRows.{row_from};
-ghost use Rattle.starts.specs.Unmarked.{PixelOf, Tells};
+ghost use Rattle.starts.specs.Unmarked.{PixelOf, Tells, told};
 ghost use Rattle.starts.specs.Progress.{state, entry_state, exit_state, StartsListed};
 ghost use Rattle.starts.specs.Pixels.{PixelNext};
 ghost use Rattle.starts.specs.Rows.{RowNext};
@@ -14,31 +14,27 @@ use cycles::write_cycle;
 use steps::MARK_BIT;
 
 // How many cycles and how many corners are written.
-#[derive(Clone, Copy)]
+#[derive(Clone, Copy, Debug, PartialEq, Eq)]
 pub struct Counts {
     pub cycles: usize,
     pub corners: usize,
 }
 
-// 1 plus the region of the pixel (x, y), where its north side is an edge and bears no mark; 0 elsewhere.
-fn unmarked(n: u32, map: &[u32], x: u32, y: u32) -> u32
+// The region of the pixel (x, y), where its north side is an edge and bears no mark.
+fn unmarked(n: u32, map: &[u32], x: u32, y: u32) -> Option<u32>
     requires { PixelOf n map.now x y }
-    ensures { Tells n map.now (code n x y) result }
+    ensures { Tells n map.now (code n x y) (told result) }
 {
     let side = location::side(n);
     let i = y as usize * side + x as usize;
     let here = map[i];
     if MARK_BIT <= here {
-        return 0;
+        return None;
     }
-    if y == 0 {
-        return here;
+    if 0 < y && map[i - side] % MARK_BIT == here {
+        return None;
     }
-    let north = map[i - side] % MARK_BIT;
-    if north == here {
-        return 0;
-    }
-    here
+    Some(here - 1)
 }
 
 // Writes the cycle that starts at the pixel (x, y), if one does: its owner, its end, its area, and its corners into the unused rest of the
@@ -57,17 +53,16 @@ fn list_pixel(
     requires { PixelNext n x y (state work.old owners.old ends.old corners.old areas.old counts) }
     ensures { StartsListed n (code n x y ∷ []) (entry_state work owners ends corners areas counts) (exit_state work owners ends corners areas result) }
 {
-    let r = unmarked(n, work, x, y);
-    if r == 0 {
+    let Some(region) = unmarked(n, work, x, y) else {
         return counts;
-    }
+    };
     let cycles = counts.cycles;
     let at = counts.corners;
     let walked = write_cycle(n, work, x, y, &mut corners[at..]);
     let next = cycles + 1;
     let end = at + walked.corners;
     let area = walked.area;
-    owners[cycles] = r - 1;
+    owners[cycles] = region;
     ends[cycles] = end as u32;
     areas[cycles] = area;
     Counts {
@@ -94,10 +89,8 @@ fn list_row(
 {
     let end = x + width;
     let mut listed = counts;
-    let mut i = x;
-    while i < end {
+    for i in x..end {
         listed = list_pixel(n, i, y, listed, work, owners, ends, corners, areas);
-        i += 1;
     }
     listed
 }

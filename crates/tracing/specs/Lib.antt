@@ -1,3 +1,4 @@
 -- What the tracing promises.
 pub mod Tracing
 pub mod Accepting
+pub mod Results

@@ -2,9 +2,22 @@
 #![tactic(auto)]
 
 ghost use Rattle.std.specs.Prelude.{◌≡◌, ◌≤◌};
+ghost use Rattle.answers.specs.Results.{said};
+ghost use Rattle.tracing.specs.Results.{traced};
 ghost use Rattle.tracing.specs.Tracing.{lent, is_too_short, unfit_number, Tracing};
 
-// The number of an answer, 0 for acceptance, and the counts of regions, of cycles and of the corners of all cycles.
+use answers::Cause;
+
+// How many regions, cycles, and corners of all cycles are listed.
+#[derive(Clone, Copy, Debug, PartialEq, Eq)]
+pub struct Listed {
+    pub regions: u32,
+    pub cycles: u32,
+    pub corners: u32,
+}
+
+// The answer for C: the number of a cause and counts 0, or 0 and the counts.
+#[repr(C)]
 #[derive(Clone, Copy)]
 pub struct Traced {
     pub number: u32,
@@ -13,15 +26,24 @@ pub struct Traced {
     pub corners: u32,
 }
 
-// The answer of a refusal.
-fn refused(number: u32) -> Traced
-    ensures { result ≡ record { number = number; regions = 0; cycles = 0; corners = 0 } }
-{
-    Traced {
-        number: number,
-        regions: 0,
-        cycles: 0,
-        corners: 0,
+impl From<Result<Listed, Cause>> for Traced {
+    ghost from_gives = { λ outcome answer. answer ≡ traced outcome };
+
+    fn from(outcome: Result<Listed, Cause>) -> Traced {
+        match outcome {
+            Ok(listed) => Traced {
+                number: 0,
+                regions: listed.regions,
+                cycles: listed.cycles,
+                corners: listed.corners,
+            },
+            Err(cause) => Traced {
+                number: u32::from(cause),
+                regions: 0,
+                cycles: 0,
+                corners: 0,
+            },
+        }
     }
 }
 
@@ -59,8 +81,7 @@ fn short(
     areas.len() < whole
 }
 
-// The number to refuse with where n is above 8 or one of the lists is too short, 0 where neither is so: 8 comes last, so the check is
-// asked for a cause before it.
+// Refuses where n is above 8 or one of the lists is too short: 8 comes last, so the check is asked for a cause before it.
 fn unfit(
     n: u32,
     codes: &[u32],
@@ -72,21 +93,18 @@ fn unfit(
     ends: &[u32],
     corners: &[u32],
     areas: &[i32],
-) -> u32
-    ensures { result ≡ unfit_number n codes.now levels.now colours.now
+) -> Result<(), Cause>
+    ensures { said result ≡ unfit_number n codes.now levels.now colours.now
         (lent labels.now work.now owners.now ends.now corners.now areas.now) }
 {
     if 8 < n {
-        return 1;
+        return Err(Cause::SideTooLarge);
     }
     if short(n, codes.len(), labels, work, owners, ends, corners, areas) {
-        let fault = blocks::check(n, codes, levels, colours);
-        if fault != 0 {
-            return fault;
-        }
-        return 8;
+        blocks::check(n, codes, levels, colours)?;
+        return Err(Cause::ListTooShort);
     }
-    0
+    Ok(())
 }
 
 // The outlines of all regions of a block list: labels, owners, ends, corners and areas, and the counts of regions, cycles and corners. The
@@ -102,26 +120,19 @@ pub fn trace(
     ends: &mut [u32],
     corners: &mut [u32],
     areas: &mut [i32],
-) -> Traced
+) -> Result<Listed, Cause>
     ensures { Tracing n codes.now levels.now colours.now
         (lent labels.old work.old owners.old ends.old corners.old areas.old)
-        (lent labels.new work.new owners.new ends.new corners.new areas.new) result }
+        (lent labels.new work.new owners.new ends.new corners.new areas.new) (traced result) }
 {
-    let number = unfit(
+    unfit(
         n, codes, levels, colours, labels, work, owners, ends, corners, areas,
-    );
-    if number != 0 {
-        return refused(number);
-    }
-    let numbered = regions::number(n, codes, levels, colours, labels, work);
-    if numbered.number != 0 {
-        return refused(numbered.number);
-    }
+    )?;
+    let regions = regions::number(n, codes, levels, colours, labels, work)?;
     let counts = outlining::outline(n, codes, levels, labels, work, owners, ends, corners, areas);
-    Traced {
-        number: 0,
-        regions: numbered.regions,
+    Ok(Listed {
+        regions,
         cycles: counts.cycles as u32,
         corners: counts.corners as u32,
-    }
+    })
 }
