@@ -8,7 +8,7 @@ ghost use Rattle.cursors.specs.Cursors.{next_place};
 pub fn least(a: usize, b: usize) -> usize
     ensures { result ≡ min a b }
 {
-    if b < a { b } else { a }
+    a.min(b)
 }
 
 // The code after the last pixel of a block.
