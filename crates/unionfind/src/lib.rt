@@ -17,10 +17,8 @@ pub fn own_parents(parents: &mut [u32])
     requires { length parents.old < 65537 }
     ensures { parents.new ≡ range 0 (length parents.old) }
 {
-    let mut i: usize = 0;
-    while i < parents.len() {
+    for i in 0..parents.len() {
         parents[i] = i as u32;
-        i += 1;
     }
 }
 
@@ -78,10 +76,8 @@ pub fn number_all(labels: &mut [u32]) -> u32
     ensures labels_after { labels.new ≡ numbers_below (root labels.old) (length labels.old) }
 {
     let mut next: u32 = 0;
-    let mut i: usize = 0;
-    while i < labels.len() {
+    for i in 0..labels.len() {
         next = number_place(labels, i, next);
-        i += 1;
     }
     next
 }

@@ -1,3 +1,4 @@
+-- A parent is not above its child, so each step goes down to the root.
 use Rattle.unions.specs.Halving.{begin, up_le, two_le, finish, again}
 use native.Mathlib.Omega.{arith}
 use Rattle.unionfind.proofs.find.Goals as goal

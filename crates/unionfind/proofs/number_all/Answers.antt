@@ -1,5 +1,6 @@
+-- A parent is numbered before its child.
 use Rattle.unions.specs.RootNumbers.{begin, up_le, again, finish}
-use Prim.Native.Nat.{◌<◌, ◌-◌}
+use Prim.Native.Nat.{◌<◌}
 use native.Mathlib.Omega.{arith}
 use lib.ListN.{length}
 use Rattle.unionfind.proofs.number_all.Goals as goal
@@ -11,12 +12,12 @@ pub number_place-next-requires : goal.number_place-next-requires
 number_place-next-requires c =
     let l = c.loop-i in
     let less : l.i < length c.args.labels.now = omega arith in
-    (c.loop-i-test.true, omega (arith, up_le c.requires.0 l.invariant less), l.invariant.few, omega (arith, l.invariant.long, c.requires.1))
+    (omega (arith, l.invariant.long), omega (arith, up_le c.requires.0 l.invariant less), l.invariant.few, omega (arith, l.invariant.long, c.requires.1))
 
 pub loop-i-preserved : goal.loop-i-preserved
 loop-i-preserved c =
     let l = c.loop-i in
-    let less : l.i < length c.args.labels.now = omega (arith, c.loop-i-test.true, l.invariant.long) in
+    let less : l.i < length c.args.labels.now = omega arith in
     again c.requires.0 l.invariant less c.number_place-next.ensures.0 c.number_place-next.ensures.1
 
 pub shape_of-labels : goal.shape_of-labels
@@ -24,5 +25,5 @@ shape_of-labels c = c.loop-i.invariant.long
 
 pub returns : goal.returns
 returns c =
-    let all = finish c.loop-i.invariant (omega (arith, c.loop-i-test.false, c.loop-i.invariant.long)) in
+    let all = finish c.loop-i.invariant (omega arith) in
     record { value = all.0; labels_after = all.1 }

@@ -1,5 +1,5 @@
+-- One place more becomes its own parent.
 use Rattle.unions.specs.OwnParents.{begin, again, finish}
-use Prim.Native.Nat.{◌-◌}
 use native.Mathlib.Omega.{arith}
 use Rattle.unionfind.proofs.own_parents.Goals as goal
 
