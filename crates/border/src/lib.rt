@@ -40,14 +40,11 @@ fn join_span(
     if z == 0 {
         return;
     }
-    let end = from + s;
     let mut last = k;
-    let mut x = from;
-    while x < end {
+    for x in from..from + s {
         let b = entries[x];
         join_alike(colours, parents, last, b, k);
         last = b;
-        x += 1;
     }
 }
 
@@ -113,13 +110,11 @@ pub fn walk(
     ensures { Walked n codes.now levels.now colours.now work.old work.new parents.new }
 {
     let w = location::side(n);
-    let mut k: usize = 0;
-    while k < codes.len() {
+    for k in 0..codes.len() {
         let x = location::column(codes[k]) as usize;
         let y = location::row(codes[k]) as usize;
         let s = location::side(levels[k] as u32);
         join_spans(work, w, x, y, s, colours, k as u32, parents);
         store(work, w, x, y, s, k as u32);
-        k += 1;
     }
 }

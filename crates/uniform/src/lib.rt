@@ -12,13 +12,10 @@ fn run_alike(raster: &[u16], from: usize, s: usize, v: u16) -> bool
     requires { from + s ≤ length raster.now }
     ensures { result ≡ alike raster.now v from s }
 {
-    let end = from + s;
-    let mut i = from;
-    while i < end {
+    for i in from..from + s {
         if raster[i] != v {
             return false;
         }
-        i += 1;
     }
     true
 }
@@ -28,14 +25,10 @@ fn square_alike(raster: &[u16], w: usize, at: usize, s: usize, v: u16) -> bool
     requires { (w ≤ 256) × RowsFit (length raster.now) w at s s }
     ensures { result ≡ rows_alike raster.now v w at s s }
 {
-    let mut from = at;
-    let mut y: usize = 0;
-    while y < s {
-        if !run_alike(raster, from, s, v) {
+    for y in 0..s {
+        if !run_alike(raster, at + y * w, s, v) {
             return false;
         }
-        from += w;
-        y += 1;
     }
     true
 }

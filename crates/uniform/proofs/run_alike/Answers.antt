@@ -1,6 +1,7 @@
+-- A pixel of another colour ends the run's test; one of the colour leaves it to the others.
 use Rattle.quadtree.specs.Quadtree.{alike}
 use Rattle.uniform.specs.Squares.{run-ended, run_goes_on, run_breaks}
-use mathlib.Core.Path.{◌≡◌, refl, sym, ap, ◌∙◌}
+use mathlib.Core.Path.{◌≡◌, sym, ap, ◌∙◌}
 use Prim.Native.Nat.{◌-◌, ◌+◌}
 use native.Mathlib.Omega.{arith}
 use Rattle.uniform.proofs.run_alike.Goals as goal
@@ -9,20 +10,19 @@ pub loop-i-init : goal.loop-i-init
 loop-i-init c =
     let a = c.args in
     let e : a.from + a.s - a.from ≡ a.s = omega arith in
-    (omega arith, omega arith, refl, ap (alike a.raster.now a.v a.from) e)
+    ap (alike a.raster.now a.v a.from) e
 
 pub returns-then-raster-i : goal.returns-then-raster-i
 returns-then-raster-i c =
     let a = c.args in
-    run_breaks a.raster.now a.v c.loop-i.i (a.from + a.s) c.loop-i-test.true c.if-raster-i.true ∙ c.loop-i.invariant.3
+    run_breaks a.raster.now a.v c.loop-i.i (a.from + a.s) c.loop-i-test.true c.if-raster-i.true ∙ c.loop-i.invariant
 
 pub loop-i-preserved : goal.loop-i-preserved
 loop-i-preserved c =
     let a = c.args in
-    let goes_on = run_goes_on a.raster.now a.v c.loop-i.i (a.from + a.s) c.loop-i-test.true c.if-raster-i.false in
-    (omega arith, omega arith, refl, sym goes_on ∙ c.loop-i.invariant.3)
+    sym (run_goes_on a.raster.now a.v c.loop-i.i (a.from + a.s) c.loop-i-test.true c.if-raster-i.false) ∙ c.loop-i.invariant
 
 pub returns : goal.returns
 returns c =
     let a = c.args in
-    run-ended a.raster.now a.v c.loop-i.i (a.from + a.s - c.loop-i.i) (omega arith) ∙ c.loop-i.invariant.3
+    run-ended a.raster.now a.v c.loop-i.i (a.from + a.s - c.loop-i.i) (omega arith) ∙ c.loop-i.invariant
