@@ -28,15 +28,14 @@ fn level_in(n: u32, from: usize, to: usize) -> u32
         return 0;
     }
     let mut level = location::top_level(n, from as u32);
-    loop {
-        if from + location::pixels(level) <= to {
-            return level;
-        }
+    while to < from + location::pixels(level) {
         level -= 1;
     }
+    level
 }
 
-// Writes the squares of the pending run after the blocks that are written, and returns how many blocks there are then.
+// Writes the squares of the pending run after the blocks that are written, and returns how many blocks there are then. The step is each
+// square's size, so the code is counted by hand.
 pub fn write_run(
     n: u32,
     pending: Pending,
@@ -79,10 +78,8 @@ pub fn append(
 {
     if colour == pending.colour {
         return Pending {
-            from: pending.from,
             to: pending.to + size,
-            colour: pending.colour,
-            count: pending.count,
+            ..pending
         };
     }
     let count = write_run(n, pending, codes, levels, colours);

@@ -2,8 +2,8 @@
 use Rattle.appending.specs.Levels.{Descending}
 use Rattle.appending.proofs.level_in.Given as goal
 
-abbrev pub invariant-loop-n : goal.invariant-loop-n
-invariant-loop-n l = Descending l.n l.from l.to l.level
+abbrev pub invariant-loop-level : goal.invariant-loop-level
+invariant-loop-level l = Descending l.n l.from l.to l.level
 
-abbrev pub decreases-loop-n : goal.decreases-loop-n
-decreases-loop-n l = l.level
+abbrev pub decreases-loop-level : goal.decreases-loop-level
+decreases-loop-level l = l.level
