@@ -3,36 +3,24 @@ ghost use Rattle.std.specs.Prelude.{◌≡◌, false, not, ◌||◌, cond, ◌�
 ghost use Rattle.headers.specs.Space.{is_space, is_sign, is_end, is_white, space, skip, spaces};
 ghost use Rattle.headers.specs.Steps.{Passes};
 
-use crate::step::{Cursor, Past};
+use crate::step::Cursor;
 
 // Blank, tab, LF, CR.
 fn is_space(b: u8) -> bool
     ensures { result ≡ is_space b }
 {
-    if b == 32 {
-        return true;
-    }
-    if b == 9 {
-        return true;
-    }
-    if b == 10 {
-        return true;
-    }
-    b == 13
+    matches!(b, b' ' | b'\t' | b'\n' | b'\r')
 }
 
 // One plain white space byte: no remark stands after maxval.
-pub(crate) fn space(bytes: &[u8], c: Cursor) -> Past
+pub(crate) fn space(bytes: &[u8], c: Cursor) -> Option<Cursor>
     ensures { Passes bytes.now (space (drop c.at bytes.now)) result }
 {
     let at = c.at;
-    if bytes.len() <= at {
-        return Past::Bad;
-    }
-    if is_space(bytes[at]) {
-        Past::At(Cursor { at: at + 1 })
+    if at < bytes.len() && is_space(bytes[at]) {
+        Some(Cursor { at: at + 1 })
     } else {
-        Past::Bad
+        None
     }
 }
 
@@ -40,13 +28,7 @@ pub(crate) fn space(bytes: &[u8], c: Cursor) -> Past
 fn is_white(b: u8, inside: bool) -> bool
     ensures { result ≡ inside || is_white b }
 {
-    if inside {
-        return true;
-    }
-    if is_space(b) {
-        return true;
-    }
-    b == 35
+    inside || is_space(b) || b == b'#'
 }
 
 // Whether a remark goes on behind the byte: a number sign begins one, LF or CR ends it.
@@ -54,47 +36,39 @@ fn in_remark(b: u8, inside: bool) -> bool
     ensures { result ≡ cond inside (not (is_end b)) (is_sign b) }
 {
     if inside {
-        if b == 10 {
-            return false;
-        }
-        return b != 13;
+        b != b'\n' && b != b'\r'
+    } else {
+        b == b'#'
     }
-    b == 35
 }
 
 // Past the white space at `from`, if any. A remark that never ends is refused.
-fn skip(bytes: &[u8], from: usize) -> Past
+fn skip(bytes: &[u8], from: usize) -> Option<Cursor>
     requires { from ≤ length bytes.now }
     ensures { Passes bytes.now (skip false (drop from bytes.now)) result }
 {
-    let mut at = from;
     let mut remark = false;
-    while at < bytes.len() {
+    for at in from..bytes.len() {
         let b = bytes[at];
         let white = is_white(b, remark);
         if !white {
-            return Past::At(Cursor { at });
+            return Some(Cursor { at });
         }
         remark = in_remark(b, remark);
-        at += 1;
     }
     if remark {
-        return Past::Bad;
+        return None;
     }
-    Past::At(Cursor { at })
+    Some(Cursor { at: bytes.len() })
 }
 
 // White space: there is some.
-pub(crate) fn spaces(bytes: &[u8], c: Cursor) -> Past
+pub(crate) fn spaces(bytes: &[u8], c: Cursor) -> Option<Cursor>
     ensures { Passes bytes.now (spaces (drop c.at bytes.now)) result }
 {
     let at = c.at;
-    if bytes.len() <= at {
-        return Past::Bad;
-    }
-    let white = is_white(bytes[at], false);
-    if !white {
-        return Past::Bad;
+    if bytes.len() <= at || !is_white(bytes[at], false) {
+        return None;
     }
     skip(bytes, at)
 }

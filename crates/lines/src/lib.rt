@@ -13,22 +13,18 @@ fn ends_line(owners: &[u32], cycles: u32, k: u32) -> bool
     requires { (k < cycles) × (cycles ≤ length owners.now) }
     ensures { result ≡ ends_line owners.now cycles k }
 {
-    if cycles <= k + 1 {
-        return true;
-    }
     let i = k as usize;
-    owners[i + 1] != owners[i]
+    cycles <= k + 1 || owners[i + 1] != owners[i]
 }
 
-// The path data of one cycle, and LF after the last of its region.
+// The path data of one cycle, which is not refused, and LF after the last of its region.
 fn put_cycle(corners: &[u32], last: bool, text: &mut [u8]) -> usize
     requires { OneCycle corners.now text.old }
     ensures { Put (cycle_text corners.now last) text.old text.new result }
 {
-    let written = svg::svg(corners, text);
-    let n = written.count as usize;
+    let n = svg::svg(corners, text).unwrap_or(0) as usize;
     if last {
-        text[n] = 10;
+        text[n] = b'\n';
         return n + 1;
     }
     n
@@ -40,13 +36,10 @@ pub fn write(owners: &[u32], ends: &[u32], corners: &[u32], cycles: u32, text: &
     ensures { Put (by_cycles (cycles_held owners.now ends.now corners.now cycles)) text.old text.new result }
 {
     let mut at: usize = 0;
-    let mut k: u32 = 0;
-    while k < cycles {
+    for k in 0..cycles {
         let part = stretches::cycle(corners, ends, cycles, k);
         let last = ends_line(owners, cycles, k);
-        let n = put_cycle(part, last, &mut text[at..]);
-        at += n;
-        k += 1;
+        at += put_cycle(part, last, &mut text[at..]);
     }
     at
 }

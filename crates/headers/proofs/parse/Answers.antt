@@ -1,11 +1,10 @@
 -- The steps of the definition, one after the other: those passed leave the rest to the next, and the first refused one refuses it all.
-use mathlib.Core.Path.{◌≡◌, sym, ◌∙◌}
+use mathlib.Core.Path.{sym, ◌∙◌}
 use Prim.Native.Nat.{ℕ}
 use native.Mathlib.Omega.{arith}
-use lib.ListN.{drop}
 use Rattle.headers.specs.Parser.{Parser, give, ◌>>=◌, ◌>>◌}
 use Rattle.headers.specs.Space.{space}
-use Rattle.headers.specs.Header.{Fields, field, header_over, header}
+use Rattle.headers.specs.Header.{Fields, field, header_over}
 use Rattle.headers.specs.Sequence.{past-bad, past_on, past-inside, number-bad, number_on}
 use Rattle.headers.proofs.parse.Goals as goal
 
@@ -30,60 +29,49 @@ after-magic = do
   w ← field
   after-width w
 
-pub returns-in_default : goal.returns-in_default
+pub returns-in_err-c : goal.returns-in_err-c
 unfolding header_over
-returns-in_default c = record { says = sym (past-bad c.magic.ensures c.in_default.is _); inside = omega arith }
+returns-in_err-c c =
+    rw c.from_residual.ensures (record { says = sym (past-bad c.magic.ensures c.in_err-c.was _); inside = omega arith })
 
-pub returns-in_default-field : goal.returns-in_default-field
+pub returns-in_err-width : goal.returns-in_err-width
 unfolding header_over
-returns-in_default-field c =
-    let passed-magic : header c.args.bytes.now ≡ after-magic (drop c.in-At.c.at c.args.bytes.now) = past_on c.magic.ensures c.in-At.is _ in
-    record {
-      says = sym (passed-magic ∙ number-bad c.field.ensures c.in_default-field.is _);
-      inside = omega arith;
-    }
+returns-in_err-width c =
+    let magic = past_on c.magic.ensures c.in_ok-c.was (λ _. after-magic) in
+    rw c.from_residual-in_err-width.ensures (record { says = sym (magic ∙ number-bad c.field.ensures c.in_err-width.was _); inside = omega arith })
 
-pub returns-in_default-field-2 : goal.returns-in_default-field-2
+pub returns-in_err-height : goal.returns-in_err-height
 unfolding header_over
-returns-in_default-field-2 c =
-    let passed-magic : header c.args.bytes.now ≡ after-magic (drop c.in-At.c.at c.args.bytes.now) = past_on c.magic.ensures c.in-At.is _ in
-    let passed-width : header c.args.bytes.now ≡ after-width c.in-Value.width (drop c.in-Value.d.at c.args.bytes.now) = passed-magic ∙ number_on c.field.ensures c.in-Value.is _ in
-    record {
-      says = sym (passed-width ∙ number-bad c.field-2.ensures c.in_default-field-2.is _);
-      inside = omega arith;
-    }
+returns-in_err-height c =
+    let magic = past_on c.magic.ensures c.in_ok-c.was (λ _. after-magic) in
+    let width = magic ∙ number_on c.field.ensures c.in_ok-width.was after-width in
+    rw c.from_residual-in_err-height.ensures (record { says = sym (width ∙ number-bad c.field-2.ensures c.in_err-height.was _); inside = omega arith })
 
-pub returns-in_default-field-3 : goal.returns-in_default-field-3
+pub returns-in_err-maxval : goal.returns-in_err-maxval
 unfolding header_over
-returns-in_default-field-3 c =
-    let passed-magic : header c.args.bytes.now ≡ after-magic (drop c.in-At.c.at c.args.bytes.now) = past_on c.magic.ensures c.in-At.is _ in
-    let passed-width : header c.args.bytes.now ≡ after-width c.in-Value.width (drop c.in-Value.d.at c.args.bytes.now) = passed-magic ∙ number_on c.field.ensures c.in-Value.is _ in
-    let passed-height : header c.args.bytes.now ≡ after-height c.in-Value.width c.in-Value-field.height (drop c.in-Value-field.e.at c.args.bytes.now) = passed-width ∙ number_on c.field-2.ensures c.in-Value-field.is _ in
-    record {
-      says = sym (passed-height ∙ number-bad c.field-3.ensures c.in_default-field-3.is _);
-      inside = omega arith;
-    }
+returns-in_err-maxval c =
+    let magic = past_on c.magic.ensures c.in_ok-c.was (λ _. after-magic) in
+    let width = magic ∙ number_on c.field.ensures c.in_ok-width.was after-width in
+    let height = width ∙ number_on c.field-2.ensures c.in_ok-height.was (after-height c.in_ok-width.width) in
+    rw c.from_residual-in_err-maxval.ensures (record { says = sym (height ∙ number-bad c.field-3.ensures c.in_err-maxval.was _); inside = omega arith })
 
-pub returns-in_default-space : goal.returns-in_default-space
+pub returns-in_err-raster : goal.returns-in_err-raster
 unfolding header_over
-returns-in_default-space c =
-    let passed-magic : header c.args.bytes.now ≡ after-magic (drop c.in-At.c.at c.args.bytes.now) = past_on c.magic.ensures c.in-At.is _ in
-    let passed-width : header c.args.bytes.now ≡ after-width c.in-Value.width (drop c.in-Value.d.at c.args.bytes.now) = passed-magic ∙ number_on c.field.ensures c.in-Value.is _ in
-    let passed-height : header c.args.bytes.now ≡ after-height c.in-Value.width c.in-Value-field.height (drop c.in-Value-field.e.at c.args.bytes.now) = passed-width ∙ number_on c.field-2.ensures c.in-Value-field.is _ in
-    let passed-maxval : header c.args.bytes.now ≡ after-maxval c.in-Value.width c.in-Value-field.height c.in-Value-field-2.maxval (drop c.in-Value-field-2.f.at c.args.bytes.now) = passed-height ∙ number_on c.field-3.ensures c.in-Value-field-2.is _ in
-    record {
-      says = sym (passed-maxval ∙ past-bad c.space.ensures c.in_default-space.is _);
-      inside = omega arith;
-    }
+returns-in_err-raster c =
+    let magic = past_on c.magic.ensures c.in_ok-c.was (λ _. after-magic) in
+    let width = magic ∙ number_on c.field.ensures c.in_ok-width.was after-width in
+    let height = width ∙ number_on c.field-2.ensures c.in_ok-height.was (after-height c.in_ok-width.width) in
+    let maxval = height ∙ number_on c.field-3.ensures c.in_ok-maxval.was (after-maxval c.in_ok-width.width c.in_ok-height.height) in
+    rw c.from_residual-in_err-raster.ensures (record { says = sym (maxval ∙ past-bad c.space.ensures c.in_err-raster.was _); inside = omega arith })
 
 pub returns : goal.returns
 unfolding header_over
 returns c =
-    let passed-magic : header c.args.bytes.now ≡ after-magic (drop c.in-At.c.at c.args.bytes.now) = past_on c.magic.ensures c.in-At.is _ in
-    let passed-width : header c.args.bytes.now ≡ after-width c.in-Value.width (drop c.in-Value.d.at c.args.bytes.now) = passed-magic ∙ number_on c.field.ensures c.in-Value.is _ in
-    let passed-height : header c.args.bytes.now ≡ after-height c.in-Value.width c.in-Value-field.height (drop c.in-Value-field.e.at c.args.bytes.now) = passed-width ∙ number_on c.field-2.ensures c.in-Value-field.is _ in
-    let passed-maxval : header c.args.bytes.now ≡ after-maxval c.in-Value.width c.in-Value-field.height c.in-Value-field-2.maxval (drop c.in-Value-field-2.f.at c.args.bytes.now) = passed-height ∙ number_on c.field-3.ensures c.in-Value-field-2.is _ in
+    let magic = past_on c.magic.ensures c.in_ok-c.was (λ _. after-magic) in
+    let width = magic ∙ number_on c.field.ensures c.in_ok-width.was after-width in
+    let height = width ∙ number_on c.field-2.ensures c.in_ok-height.was (after-height c.in_ok-width.width) in
+    let maxval = height ∙ number_on c.field-3.ensures c.in_ok-maxval.was (after-maxval c.in_ok-width.width c.in_ok-height.height) in
     record {
-      says = sym (passed-maxval ∙ past_on c.space.ensures c.in-At-space.is _);
-      inside = past-inside c.space.ensures c.in-At-space.is;
+      says = sym (maxval ∙ past_on c.space.ensures c.in_ok-raster.was _);
+      inside = past-inside c.space.ensures c.in_ok-raster.was;
     }

@@ -1,11 +1,7 @@
--- The loop's invariant: what was written and the text of the cycles left are the whole, and the cycles left have room. The measure:
--- the cycles left.
+-- The loop's invariant: what was written and the text of the cycles left are the whole, and the cycles left have room.
 use Rattle.lines.specs.Writing.{Underway}
 use Prim.Native.Nat.{◌-◌}
 use Rattle.lines.proofs.write.Given as goal
 
 abbrev pub invariant-loop-k : goal.invariant-loop-k
 invariant-loop-k l = Underway l.owners l.ends l.corners l.cycles l.initial.text l.text l.at l.k
-
-abbrev pub decreases-loop-k : goal.decreases-loop-k
-decreases-loop-k l = l.cycles - l.k

@@ -1,12 +1,7 @@
 -- The invariant: the digits read and those left make the number (`Digits`). A number of at most 5 digits is below 100,000, so nothing
--- overflows. The measure: the bytes left.
-use Prim.Native.Nat.{◌-◌}
-use lib.ListN.{length}
+-- overflows.
 use Rattle.headers.proofs.Digits.{Reading}
 use Rattle.headers.proofs.number.parse.Given as goal
 
 abbrev pub invariant-loop-at : goal.invariant-loop-at
-invariant-loop-at l = Reading l.bytes l.initial.at l.count l.value l.at
-
-abbrev pub decreases-loop-at : goal.decreases-loop-at
-decreases-loop-at l = length l.bytes - l.at
+invariant-loop-at l = Reading l.bytes l.fn.c.at l.count l.value l.at

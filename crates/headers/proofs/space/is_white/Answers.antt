@@ -1,15 +1,21 @@
 -- Inside a remark each byte counts; else the four plain ones and the number sign, in the definition's order.
-use mathlib.Core.Path.{refl, sym, ◌∙◌}
+use Rattle.std.proofs.Common.{sym, ◌∙◌}
 use Rattle.headers.specs.Space.{is_white, is_sign}
 use Rattle.headers.proofs.space.is_white.Goals as goal
-
-pub returns-then-inside : goal.returns-then-inside
-returns-then-inside c = rw c.if-inside.true refl
+use Rattle.headers.proofs.space.is_white.Goals.{then-inside, else-inside}
 
 pub returns-then-is_space : goal.returns-then-is_space
 unfolding is_white
-returns-then-is_space c = rw (c.if-inside.false, sym c.is_space.ensures ∙ c.if-is_space.true) refl
+returns-then-is_space c =
+    elim c.if-inside.branch [
+      | then-inside w ↦ simp (w.value-is, w.if-inside.true)
+      | else-inside w ↦ simp (c.if-is_space.true, w.if-inside.false, sym w.is_space.ensures ∙ sym w.value-is ∙ c.if-is_space.true)
+    ]
 
-pub returns : goal.returns
+pub returns-else-is_space : goal.returns-else-is_space
 unfolding is_white is_sign
-returns c = rw (c.if-inside.false, sym c.is_space.ensures ∙ c.if-is_space.false) refl
+returns-else-is_space c =
+    elim c.if-inside.branch [
+      | then-inside w ↦ cc (w.value-is, c.if-is_space.false)
+      | else-inside w ↦ simp (w.if-inside.false, sym w.is_space.ensures ∙ sym w.value-is ∙ c.if-is_space.false)
+    ]

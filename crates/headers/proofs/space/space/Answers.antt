@@ -1,30 +1,22 @@
 -- Where the bytes end there is none to take; else the byte at the place is white space or not.
-use mathlib.Core.Path.{sym, ◌∙◌}
-use native.Mathlib.Omega.{arith}
+use Rattle.std.proofs.Common.{sym, ◌∙◌, arith}
 use Rattle.headers.specs.Space.{space}
 use Rattle.headers.proofs.Places.{byte-end, byte-yes, byte-no}
 use Rattle.headers.proofs.space.space.Goals as goal
-
-pub returns-then-bytes-at : goal.returns-then-bytes-at
-unfolding space
-returns-then-bytes-at c =
-    record {
-      says = sym (byte-end _ _ c.if-bytes-at.true _);
-      inside = omega arith;
-    }
+use Rattle.headers.proofs.space.space.Goals.{else-at-bytes-via-then-at-bytes+else-is_space, else-at-bytes-via-else-at-bytes}
 
 pub returns-then-is_space : goal.returns-then-is_space
 unfolding space
 returns-then-is_space c =
     record {
-      says = sym (byte-yes _ _ c.if-bytes-at.false _ (sym c.is_space.ensures ∙ c.if-is_space.true));
+      says = sym (byte-yes _ _ c.if-at-bytes.true _ (sym c.is_space.ensures ∙ c.if-is_space.true));
       inside = omega arith;
     }
 
-pub returns-else-is_space : goal.returns-else-is_space
+pub returns-else-at-bytes : goal.returns-else-at-bytes
 unfolding space
-returns-else-is_space c =
-    record {
-      says = sym (byte-no _ _ c.if-bytes-at.false _ (sym c.is_space.ensures ∙ c.if-is_space.false));
-      inside = omega arith;
-    }
+returns-else-at-bytes c =
+    elim c.else-at-bytes.branch [
+      | else-at-bytes-via-then-at-bytes+else-is_space w ↦ record { says = sym (byte-no _ _ w.if-at-bytes.true _ (sym w.is_space.ensures ∙ w.if-is_space.false)); inside = omega arith }
+      | else-at-bytes-via-else-at-bytes w ↦ record { says = sym (byte-end _ _ w.if-at-bytes.false _); inside = omega arith }
+    ]
