@@ -4,9 +4,9 @@ use Prim.Native.Nat.{ℕ, suc, ◌+◌, ◌*◌, ◌-◌, ◌^◌, ◌≤◌, �
 use native.Mathlib.Nat.{pow-suc}
 use native.Mathlib.Numerals.{add-one}
 use native.Mathlib.Omega.{arith}
+use Rattle.std.specs.Prelude.{None, Some}
 use Rattle.sequences.specs.Powers.{pow2_mono}
 use Rattle.pgm.specs.Exponent.{exponent_from, exponent, from_here, from_next}
-use Rattle.pgm.specs.declared.shape.PowerOfTwo.{PowerOfTwo}
 
 pub record Searching (width n power : ℕ) : Type 0 where
   pub small : n ≤ 9
@@ -18,7 +18,7 @@ unfolding exponent
 begin width = record { small = omega arith; doubled = refl; same = refl }
 
 module _ {width n power : ℕ} (s : Searching width n power) where
-  pub found : n < 9 → power ≡ width → PowerOfTwo.Power n ≡ exponent width
+  pub found : n < 9 → power ≡ width → Some n ≡ exponent width
   found h e =
       let f : 9 - n ≡ suc (8 - n) = omega arith in
       sym (from_here (8 - n) n width (sym s.doubled ∙ e)) ∙ ap (λ k. exponent_from k n width) (sym f) ∙ s.same
@@ -32,7 +32,7 @@ module _ {width n power : ℕ} (s : Searching width n power) where
         same = sym (from_next (9 - (n + 1)) n width (λ e. d (s.doubled ∙ e))) ∙ ap (λ k. exponent_from k n width) (sym f) ∙ s.same;
       }
 
-  pub none : 9 ≤ n → PowerOfTwo.Other ≡ exponent width
+  pub none : 9 ≤ n → None ≡ exponent width
   unfolding exponent_from
   none h =
       let f : 9 - n ≡ 0 = omega arith in

@@ -1,5 +1,5 @@
 -- Accepted pictures: what number 0 says of a file, and the other way round; and what a refusal says.
-use Rattle.std.specs.Prelude.{◌≡◌, refl, Bool, true, false, ◌⊎◌, ◌↔◌, List, ℕ, ◌*◌, ◌^◌, ◌≤◌, ◌<◌, length, get_or}
+use Rattle.std.specs.Prelude.{◌≡◌, Result, Ok, Err, refl, Bool, true, false, ◌⊎◌, ◌↔◌, List, ℕ, ◌*◌, ◌^◌, ◌≤◌, ◌<◌, length, get_or}
 use Rattle.std.proofs.Common.{sym, ap, ap₂, ◌∙◌, subst, inl, inr, arith}
 use Rattle.std.proofs.Math.Logic.{⊎_elim}
 use Rattle.std.proofs.Math.Decide.{ℕ_discrete}
@@ -13,6 +13,7 @@ use Rattle.pgm.specs.Picture.{judged, picture, Scan, nothing, said, scan}
 use Rattle.pgm.specs.Shaped.{shaped}
 use Rattle.pgm.specs.ShapeLaws.{filled_shape, refused_11_to_13}
 use Rattle.pgm.specs.Scans.{refused_scan, shape_scan, facts, above_scan, held-scan}
+use Rattle.answers.specs.declared.cause.Cause.{Cause}
 use Rattle.pgm.specs.declared.shape.Shape.{Shape}
 
 -- A file of side 2^n, n from 0 to 8, with maxval from 1 to 65,535. Behind the header stand the bytes of 4^n samples, at their width, and
@@ -63,7 +64,7 @@ pub record Passed (bytes : List ℕ) : Type 0 where
 
 module _ (bytes rest : List ℕ) (f : Fields) (x : File bytes f rest) where
   -- What passes 11 to 14 is accepted.
-  passed : {n count : ℕ} {wide : Bool} → shaped f (length rest) ≡ Shape.Samples n count wide → any_above f.maxval (samples_of wide count rest) ≡ false → Passed bytes
+  passed : {n count : ℕ} {wide : Bool} → shaped f (length rest) ≡ Ok (record { n = n; count = count; wide = wide }) → any_above f.maxval (samples_of wide count rest) ≡ false → Passed bytes
   passed {n} {count} {wide} e none =
       let s = facts f rest e in
       let same : samples_of wide count rest ≡ samples_of (is_wide f.maxval) (4 ^ n) rest = ap₂ (λ (t : Bool) (k : ℕ). samples_of t k rest) s.wide_is s.square_is in
@@ -90,13 +91,13 @@ module _ (bytes rest : List ℕ) (f : Fields) (x : File bytes f rest) where
   by_shape : Passed bytes ⊎ Refused bytes
   by_shape = go (shaped f (length rest)) refl
     where
-      go : (s : Shape) → shaped f (length rest) ≡ s → Passed bytes ⊎ Refused bytes
-      go (Shape.Refused k) e =
+      go : (s : Result Shape Cause) → shaped f (length rest) ≡ s → Passed bytes ⊎ Refused bytes
+      go (Err cause) e =
           let r = refused_11_to_13 f (length rest) e in
           inr (refused_as (omega (arith, r.0), omega (arith, r.1)) (shape_scan f rest e))
-      go (Shape.Samples n count wide) e = pick (any_above f.maxval (samples_of wide count rest)) refl
+      go (Ok s) e = pick (any_above f.maxval (samples_of s.wide s.count rest)) refl
         where
-          pick : (t : Bool) → any_above f.maxval (samples_of wide count rest) ≡ t → Passed bytes ⊎ Refused bytes
+          pick : (t : Bool) → any_above f.maxval (samples_of s.wide s.count rest) ≡ t → Passed bytes ⊎ Refused bytes
           pick true h = inr (refused_as (omega arith, omega arith) (above_scan f rest e h))
           pick false h = inl (passed e h)
 

@@ -1,5 +1,5 @@
 -- Where a caller stands: which number a file gets, cause by cause.
-use Rattle.std.specs.Prelude.{◌≡◌, Bool, ◌⊎◌, List, ℕ, ◌*◌, ◌^◌, ◌≤◌, ◌<◌, length, get_or}
+use Rattle.std.specs.Prelude.{◌≡◌, Ok, Bool, ◌⊎◌, List, ℕ, ◌*◌, ◌^◌, ◌≤◌, ◌<◌, length, get_or}
 use Rattle.std.proofs.Common.{sym, ap, ◌∙◌, arith}
 use Rattle.headers.specs.Header.{Fields}
 use Rattle.headers.specs.File.{File}
@@ -13,7 +13,6 @@ use Rattle.pgm.specs.Reading.{refusal, Reading}
 use Rattle.pgm.specs.Accepted.{file_scan}
 use Rattle.pgm.specs.Callers.{refused_with, bad-header_read, raster_too_short}
 use Rattle.pgm.specs.declared.Picture.{Picture}
-use Rattle.pgm.specs.declared.shape.Shape.{Shape}
 
 -- A refusal: the number with zeros, and the raster as it was.
 abbrev RefusedWith : ℕ → Picture → List ℕ → List ℕ → Type 0
@@ -48,7 +47,7 @@ module _ {bytes rest lent bytes' lent' : List ℕ} {f : Fields} {n : ℕ} {r : P
     thirteen d = refused_with p (omega arith) (file_scan bytes rest f x ∙ shape_scan f rest (unfilled_shape f (length rest) width height side low high d))
 
     module _ (full : length rest ≡ sample_bytes wide * 4 ^ n) where
-      shape : shaped f (length rest) ≡ Shape.Samples n (4 ^ n) wide
+      shape : shaped f (length rest) ≡ Ok (record { n = n; count = 4 ^ n; wide = wide })
       shape = filled_shape f (length rest) width height side low high full
 
       -- 14 is a sample above maxval, at its width.

@@ -1,7 +1,7 @@
 -- The answers of `judge` in the order of its tests.
 use Rattle.std.proofs.Math.Path.{◌≡◌, refl, ap, subst⁻¹}
 use Rattle.std.proofs.Common.{subst, arith}
-use Rattle.std.specs.Prelude.{Bool, true, false, List, ℕ, ◌≤◌, ◌<◌, length}
+use Rattle.std.specs.Prelude.{Ok, Err, Bool, true, false, List, ℕ, ◌≤◌, ◌<◌, length}
 use Rattle.sequences.specs.Over.{over}
 use Rattle.headers.specs.Parser.{Parsed}
 use Rattle.headers.specs.Header.{Fields}
@@ -12,7 +12,8 @@ use Rattle.pgm.specs.ShapeLaws.{refused_11_to_13}
 use Rattle.pgm.specs.Scans.{shape_scan, facts, above_scan, held-scan}
 use Rattle.pgm.specs.Reading.{refusal, answer_with, Answered, cause_answered, short_answered, stored_answered}
 use Rattle.pgm.specs.declared.Picture.{Picture}
-use Rattle.pgm.specs.declared.shape.Shape.{Shape}
+use Rattle.answers.specs.declared.cause.Cause.{Cause}
+use Rattle.answers.specs.Causes.{number_of}
 
 -- What is answered of the fields and the bytes behind them is answered of the file.
 pub file_answered : {p q : Parsed Fields} {lent lent' : List ℕ} {r : Picture} → p ≡ q → Answered (said q) lent lent' r → Answered (said p) lent lent' r
@@ -25,10 +26,10 @@ nothing_answered {s} {k} lent e some = cause_answered s lent some (ap (λ (t : S
 
 -- The fields of a header, the bytes behind it, and the lent raster.
 module _ (f : Fields) (rest lent : List ℕ) where
-  pub shape_answered : {k : ℕ} → shaped f (length rest) ≡ Shape.Refused k → Answered (said (judged f rest)) lent lent (refusal k)
+  pub shape_answered : {cause : Cause} → shaped f (length rest) ≡ Err cause → Answered (said (judged f rest)) lent lent (refusal (number_of cause))
   shape_answered e = nothing_answered lent (shape_scan f rest e) (omega (arith, (refused_11_to_13 f (length rest) e).0))
 
-  module _ {n count : ℕ} {wide : Bool} (e : shaped f (length rest) ≡ Shape.Samples n count wide) where
+  module _ {n count : ℕ} {wide : Bool} (e : shaped f (length rest) ≡ Ok (record { n = n; count = count; wide = wide })) where
     pub above_answered : any_above f.maxval (samples_of wide count rest) ≡ true → Answered (said (judged f rest)) lent lent (refusal 14)
     above_answered h = nothing_answered lent (above_scan f rest e h) (omega arith)
 

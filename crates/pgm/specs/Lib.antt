@@ -6,6 +6,7 @@ pub mod Shaped
 pub mod ShapeLaws
 pub mod Scans
 pub mod Reading
+pub mod Results
 pub mod Judging
 pub mod Accepted
 pub mod Callers

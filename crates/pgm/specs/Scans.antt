@@ -1,5 +1,5 @@
 -- What a file holds, cause by cause, told by the shape of its picture.
-use Rattle.std.specs.Prelude.{◌≡◌, Bool, true, false, not, List, ℕ, length}
+use Rattle.std.specs.Prelude.{◌≡◌, Ok, Err, Bool, true, false, not, List, ℕ, length}
 use Rattle.std.proofs.Math.Path.{refl, ap}
 use Rattle.std.proofs.Common.{◌∙◌}
 use Rattle.headers.specs.Parser.{Parsed, refused, got, demand}
@@ -8,7 +8,8 @@ use Rattle.pgm.specs.Samples.{samples_of, any_above}
 use Rattle.pgm.specs.Picture.{samples, judged, nothing, said}
 use Rattle.pgm.specs.Shaped.{shaped, judged_from, judged_by_shape}
 use Rattle.pgm.specs.ShapeLaws.{ShapeFacts, shape_facts}
-use Rattle.pgm.specs.declared.shape.Shape.{Shape}
+use Rattle.answers.specs.declared.cause.Cause.{Cause}
+use Rattle.answers.specs.Causes.{number_of}
 
 -- The number of a refusal from 10 to 14.
 pub refused_scan : {p : Parsed Fields} {k : ℕ} → p ≡ refused k → said p ≡ nothing k
@@ -17,11 +18,11 @@ refused_scan e = ap said e
 
 -- The fields of a header, and the bytes behind it.
 module _ (f : Fields) (rest : List ℕ) where
-  pub shape_scan : {k : ℕ} → shaped f (length rest) ≡ Shape.Refused k → said (judged f rest) ≡ nothing k
+  pub shape_scan : {cause : Cause} → shaped f (length rest) ≡ Err cause → said (judged f rest) ≡ nothing (number_of cause)
   unfolding judged_from
   shape_scan e = refused_scan (judged_by_shape f rest ∙ ap (judged_from f rest) e)
 
-  module _ {n count : ℕ} {wide : Bool} (e : shaped f (length rest) ≡ Shape.Samples n count wide) where
+  module _ {n count : ℕ} {wide : Bool} (e : shaped f (length rest) ≡ Ok (record { n = n; count = count; wide = wide })) where
     pub facts : ShapeFacts f (length rest) n count wide
     facts = shape_facts f (length rest) e
 

@@ -6,12 +6,23 @@ mod shape;
 
 ghost use Rattle.std.specs.Prelude.{◌≡◌};
 ghost use Rattle.pgm.specs.Picture.{judged, said};
-ghost use Rattle.pgm.specs.Reading.{refusal, Answered, Reading};
+ghost use Rattle.pgm.specs.Reading.{Answered, Reading};
+ghost use Rattle.pgm.specs.Results.{picture};
 
+use answers::Cause;
 use headers::Header;
 use shape::Shape;
 
-// Number 0 with n, maxval and how many samples were stored; or the number of a refusal with zeros.
+// A picture that was read: its n, its maxval and how many samples were stored.
+#[derive(Clone, Copy, Debug, PartialEq, Eq)]
+pub struct Stored {
+    pub n: u32,
+    pub maxval: u32,
+    pub count: u32,
+}
+
+// The same for C: number 0 with n, maxval and the count; or the number of a refusal with zeros.
+#[repr(C)]
 #[derive(Clone, Copy)]
 pub struct Picture {
     pub number: u32,
@@ -20,60 +31,65 @@ pub struct Picture {
     pub count: u32,
 }
 
-// A refusal: its number, and zeros.
-fn refusal(number: u32) -> Picture
-    ensures { result ≡ refusal number }
-{
-    Picture {
-        number,
-        n: 0,
-        maxval: 0,
-        count: 0,
+impl From<Result<Stored, Cause>> for Picture {
+    ghost from_gives = { λ outcome answer. answer ≡ picture outcome };
+
+    fn from(outcome: Result<Stored, Cause>) -> Picture {
+        match outcome {
+            Ok(stored) => Picture {
+                number: 0,
+                n: stored.n,
+                maxval: stored.maxval,
+                count: stored.count,
+            },
+            Err(cause) => Picture {
+                number: u32::from(cause),
+                n: 0,
+                maxval: 0,
+                count: 0,
+            },
+        }
     }
 }
 
 // The causes 11 to 14, in rising order, then 8, of a picture whose header is followed by these bytes; where none applies its
 // samples are stored.
-fn judge(bytes: &[u8], width: u32, height: u32, maxval: u32, raster: &mut [u16]) -> Picture
-    ensures { Answered (said (judged (record { width = width; height = height; maxval = maxval }) bytes.now)) raster.old raster.new result }
+fn judge(
+    bytes: &[u8],
+    width: u32,
+    height: u32,
+    maxval: u32,
+    raster: &mut [u16],
+) -> Result<Stored, Cause>
+    ensures { Answered (said (judged (record { width = width; height = height; maxval = maxval }) bytes.now)) raster.old raster.new (picture result) }
 {
-    match shape::shape_of(width, height, maxval, bytes.len()) {
-        Shape::Refused(number) => refusal(number),
-        Shape::Samples { n, count, wide } => {
-            let above = samples::any_above(bytes, wide, count, maxval as u16);
-            let short = raster.len() < count;
-            if above {
-                return refusal(14);
-            }
-            if short {
-                return refusal(8);
-            }
-            samples::store(bytes, wide, count, raster);
-            let written = count as u32;
-            Picture {
-                number: 0,
-                n,
-                maxval,
-                count: written,
-            }
-        }
+    let Shape { n, count, wide } = shape::shape_of(width, height, maxval, bytes.len())?;
+    if samples::any_above(bytes, wide, count, maxval as u16) {
+        return Err(Cause::SampleAboveMaxval);
     }
+    if raster.len() < count {
+        return Err(Cause::ListTooShort);
+    }
+    samples::store(bytes, wide, count, raster);
+    Ok(Stored {
+        n,
+        maxval,
+        count: count as u32,
+    })
 }
 
 // Reads a picture into the raster, which needs 4^n entries: 10 to 14, then 8.
-pub fn read(bytes: &[u8], raster: &mut [u16]) -> Picture
-    ensures { Reading bytes.now raster.old bytes.now raster.new result }
+pub fn read(bytes: &[u8], raster: &mut [u16]) -> Result<Stored, Cause>
+    ensures { Reading bytes.now raster.old bytes.now raster.new (picture result) }
 {
-    match headers::parse(bytes) {
-        Header::Bad => refusal(10),
-        Header::Fields {
-            width,
-            height,
-            maxval,
-            raster: rest,
-        } => {
-            let start = rest.at;
-            judge(&bytes[start..], width, height, maxval, raster)
-        }
-    }
+    let Some(header) = headers::parse(bytes) else {
+        return Err(Cause::HeaderMalformed);
+    };
+    let Header {
+        width,
+        height,
+        maxval,
+        raster: rest,
+    } = header;
+    judge(&bytes[rest.at..], width, height, maxval, raster)
 }

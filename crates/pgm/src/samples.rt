@@ -9,21 +9,17 @@ fn sample(bytes: &[u8], wide: bool, i: usize) -> u16
     ensures { result ≡ sample_at wide bytes.now i }
 {
     if wide {
-        let high = bytes[2 * i] as u16;
-        let low = bytes[2 * i + 1] as u16;
-        return 256 * high + low;
+        u16::from_be_bytes([bytes[2 * i], bytes[2 * i + 1]])
+    } else {
+        u16::from(bytes[i])
     }
-    bytes[i] as u16
 }
 
 // The greatest sample of a width.
 fn greatest(wide: bool) -> u16
     ensures { result ≡ greatest_of wide }
 {
-    if wide {
-        return 65535;
-    }
-    255
+    if wide { 65535 } else { 255 }
 }
 
 // Whether one of the first `count` samples is above maxval. Where maxval is the greatest of the width none is. Else all are looked
@@ -36,10 +32,8 @@ pub(crate) fn any_above(bytes: &[u8], wide: bool, count: usize, maxval: u16) -> 
         return false;
     }
     let mut found = false;
-    let mut i: usize = 0;
-    while i < count {
-        found = found | (maxval < sample(bytes, wide, i));
-        i += 1;
+    for i in 0..count {
+        found |= maxval < sample(bytes, wide, i);
     }
     found
 }
@@ -49,9 +43,7 @@ pub(crate) fn store(bytes: &[u8], wide: bool, count: usize, raster: &mut [u16])
     requires { (sample_bytes wide * count ≤ length bytes.now) × (count ≤ length raster.old) }
     ensures { raster.new ≡ over (samples_of wide count bytes.now) raster.old }
 {
-    let mut at: usize = 0;
-    while at < count {
+    for at in 0..count {
         raster[at] = sample(bytes, wide, at);
-        at += 1;
     }
 }

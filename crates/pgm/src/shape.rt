@@ -4,34 +4,28 @@ ghost use Rattle.pgm.specs.Exponent.{exponent};
 ghost use Rattle.pgm.specs.Samples.{sample_bytes};
 ghost use Rattle.pgm.specs.Shaped.{shaped};
 
-// A side that is a power of two from 1 to 256, by its exponent, or another.
-#[derive(Clone, Copy)]
-pub enum PowerOfTwo {
-    Other,
-    Power(u32),
-}
+use answers::Cause;
 
 // The n from 0 to 8 with 2^n = width, where there is one.
-fn exponent(width: u32) -> PowerOfTwo
+fn exponent(width: u32) -> Option<u32>
     ensures { result ≡ exponent width }
 {
-    let mut n: u32 = 0;
     let mut power: u32 = 1;
-    while n < 9 {
+    for n in 0..9 {
         if power == width {
-            return PowerOfTwo::Power(n);
+            return Some(n);
         }
         power *= 2;
-        n += 1;
     }
-    PowerOfTwo::Other
+    None
 }
 
-// A picture by its n, the number of its samples and whether each is two bytes; or the number of a refusal.
+// A picture by its n, the number of its samples and whether each is two bytes.
 #[derive(Clone, Copy)]
-pub enum Shape {
-    Refused(u32),
-    Samples { n: u32, count: usize, wide: bool },
+pub struct Shape {
+    pub n: u32,
+    pub count: usize,
+    pub wide: bool,
 }
 
 // How many bytes so many samples are.
@@ -39,31 +33,27 @@ fn bytes_of(count: usize, wide: bool) -> usize
     requires { count ≤ 65536 }
     ensures { result ≡ sample_bytes wide * count }
 {
-    if wide {
-        return 2 * count;
-    }
-    count
+    if wide { 2 * count } else { count }
 }
 
 // The causes 11 to 13, in rising order, of a picture whose header is followed by `length` bytes.
-pub(crate) fn shape_of(width: u32, height: u32, maxval: u32, length: usize) -> Shape
+pub(crate) fn shape_of(width: u32, height: u32, maxval: u32, length: usize) -> Result<Shape, Cause>
     ensures { result ≡ shaped (record { width = width; height = height; maxval = maxval }) length }
 {
     if width != height {
-        return Shape::Refused(11);
+        return Err(Cause::SidesUnfit);
     }
-    let PowerOfTwo::Power(n) = exponent(width) else {
-        return Shape::Refused(11);
+    let Some(n) = exponent(width) else {
+        return Err(Cause::SidesUnfit);
     };
     let count = (width as usize) * (height as usize);
     let wide = 255 < maxval;
     let outside = (maxval < 1) | (65535 < maxval);
-    let unfilled = length != bytes_of(count, wide);
     if outside {
-        return Shape::Refused(12);
+        return Err(Cause::MaxvalOutOfRange);
     }
-    if unfilled {
-        return Shape::Refused(13);
+    if length != bytes_of(count, wide) {
+        return Err(Cause::BytesNotSamples);
     }
-    Shape::Samples { n, count, wide }
+    Ok(Shape { n, count, wide })
 }

@@ -10,10 +10,10 @@ pub loop-i-init : goal.loop-i-init
 loop-i-init c = looked-none _ _ _ _
 
 pub sample-requires : goal.sample-requires
-sample-requires c = room-of-each _ _ _ _ c.requires c.loop-i-test.true
+sample-requires c = room-of-each _ _ _ _ c.requires (omega arith)
 
 pub loop-i-preserved : goal.loop-i-preserved
-loop-i-preserved c = let turn = c.loop-i in looked-more _ _ _ _ turn.found c.sample.result turn.i c.loop-i-test.true c.sample.ensures c.loop-i.invariant
+loop-i-preserved c = let turn = c.loop-i in looked-more _ _ _ _ turn.found c.sample.result turn.i (omega arith) c.sample.ensures c.loop-i.invariant
 
 pub returns : goal.returns
-returns c = looked-all _ _ _ _ _ _ c.loop-i-test.false c.loop-i.invariant
+returns c = looked-all _ _ _ _ _ _ (omega arith) c.loop-i.invariant

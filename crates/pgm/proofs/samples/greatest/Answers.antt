@@ -7,6 +7,6 @@ pub returns-then-wide : goal.returns-then-wide
 unfolding greatest_of
 returns-then-wide c = sym (ap greatest_of c.if-wide.true)
 
-pub returns : goal.returns
+pub returns-else-wide : goal.returns-else-wide
 unfolding greatest_of
-returns c = sym (ap greatest_of c.if-wide.false)
+returns-else-wide c = sym (ap greatest_of c.if-wide.false)

@@ -6,13 +6,13 @@ pub loop-n-init : goal.loop-n-init
 loop-n-init c = begin _
 
 pub returns-then-power-width : goal.returns-then-power-width
-returns-then-power-width c = found c.loop-n.invariant c.loop-n-test.true c.if-power-width.true
+returns-then-power-width c = found c.loop-n.invariant (omega arith) c.if-power-width.true
 
 pub overflow_mul-power : goal.overflow_mul-power
-overflow_mul-power c = omega (arith, fits c.loop-n.invariant c.loop-n-test.true)
+overflow_mul-power c = omega (arith, fits c.loop-n.invariant (omega arith))
 
 pub loop-n-preserved : goal.loop-n-preserved
-loop-n-preserved c = again c.loop-n.invariant c.loop-n-test.true c.if-power-width.false
+loop-n-preserved c = again c.loop-n.invariant (omega arith) c.if-power-width.false
 
 pub returns : goal.returns
-returns c = none c.loop-n.invariant c.loop-n-test.false
+returns c = none c.loop-n.invariant (omega arith)

@@ -5,13 +5,13 @@ use mathlib.Core.Bool.{not}
 use Prim.Native.Nat.{ℕ, ◌≤◌, ◌*◌}
 use native.Mathlib.Nat.{mul-le-mul}
 use native.Mathlib.Omega.{arith}
+use Rattle.std.specs.Prelude.{Some}
 use lib.Dec.{eqb}
 use borrow.Author.Tests.{eq-eqb, ne_eqb}
 use Rattle.pgm.specs.Exponent.{exponent, width_small}
 use Rattle.pgm.specs.Samples.{is_wide}
 use Rattle.pgm.specs.Picture.{outside}
 use Rattle.pgm.specs.ShapeLaws.{width_not_height, width_no_power, maxval_outside, size_wrong, size_right}
-use Rattle.pgm.specs.declared.shape.PowerOfTwo.{PowerOfTwo}
 use Rattle.pgm.proofs.shape.shape_of.Goals as goal
 
 pub returns-then-width-height : goal.returns-then-width-height
@@ -25,7 +25,7 @@ returns-in_default c =
 pub overflow_mul-count : goal.overflow_mul-count
 overflow_mul-count c =
     let equal : let a = c.args in a.width ≡ a.height = c.if-width-height.false in
-    let power : exponent c.args.width ≡ PowerOfTwo.Power c.in-Power.n = sym c.exponent.ensures ∙ c.in-Power.is in
+    let power : exponent c.args.width ≡ Some c.in-Some.n = sym c.exponent.ensures ∙ c.in-Some.is in
     let few : let a = c.args in a.width * a.height ≤ 65536 =
     let a = c.args in
     let w : a.width ≤ 256 = width_small a.width power in
@@ -36,7 +36,7 @@ overflow_mul-count c =
 pub bytes_of-requires : goal.bytes_of-requires
 bytes_of-requires c =
     let equal : let a = c.args in a.width ≡ a.height = c.if-width-height.false in
-    let power : exponent c.args.width ≡ PowerOfTwo.Power c.in-Power.n = sym c.exponent.ensures ∙ c.in-Power.is in
+    let power : exponent c.args.width ≡ Some c.in-Some.n = sym c.exponent.ensures ∙ c.in-Some.is in
     let few : let a = c.args in a.width * a.height ≤ 65536 =
     let a = c.args in
     let w : a.width ≤ 256 = width_small a.width power in
@@ -48,19 +48,19 @@ pub returns-then-outside : goal.returns-then-outside
 unfolding outside
 returns-then-outside c =
     let equal : let a = c.args in a.width ≡ a.height = c.if-width-height.false in
-    let power : exponent c.args.width ≡ PowerOfTwo.Power c.in-Power.n = sym c.exponent.ensures ∙ c.in-Power.is in
+    let power : exponent c.args.width ≡ Some c.in-Some.n = sym c.exponent.ensures ∙ c.in-Some.is in
     maxval_outside _ _ equal power c.if-outside.true
 
-pub returns-then-unfilled : goal.returns-then-unfilled
+pub returns-then-length-bytes_of : goal.returns-then-length-bytes_of
 unfolding outside is_wide
-returns-then-unfilled c =
+returns-then-length-bytes_of c =
     let equal : let a = c.args in a.width ≡ a.height = c.if-width-height.false in
-    let power : exponent c.args.width ≡ PowerOfTwo.Power c.in-Power.n = sym c.exponent.ensures ∙ c.in-Power.is in
-    size_wrong _ _ equal power c.if-outside.false (ap (λ (k : ℕ). not (eqb c.args.length k)) (sym c.bytes_of.ensures) ∙ ap not (ne_eqb _ _ c.if-unfilled.true))
+    let power : exponent c.args.width ≡ Some c.in-Some.n = sym c.exponent.ensures ∙ c.in-Some.is in
+    size_wrong _ _ equal power c.if-outside.false (ap (λ (k : ℕ). not (eqb c.args.length k)) (sym c.bytes_of.ensures) ∙ ap not (ne_eqb _ _ c.if-length-bytes_of.true))
 
 pub returns : goal.returns
 unfolding outside is_wide
 returns c =
     let equal : let a = c.args in a.width ≡ a.height = c.if-width-height.false in
-    let power : exponent c.args.width ≡ PowerOfTwo.Power c.in-Power.n = sym c.exponent.ensures ∙ c.in-Power.is in
-    size_right _ _ equal power c.if-outside.false (ap (λ (k : ℕ). not (eqb c.args.length k)) (sym c.bytes_of.ensures) ∙ ap not (eq-eqb _ _ c.if-unfilled.false))
+    let power : exponent c.args.width ≡ Some c.in-Some.n = sym c.exponent.ensures ∙ c.in-Some.is in
+    size_right _ _ equal power c.if-outside.false (ap (λ (k : ℕ). not (eqb c.args.length k)) (sym c.bytes_of.ensures) ∙ ap not (eq-eqb _ _ c.if-length-bytes_of.false))
