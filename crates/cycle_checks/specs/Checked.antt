@@ -10,7 +10,6 @@ use Rattle.sequences.specs.Powers.{square_of_side}
 use Rattle.interleaving.specs.Codes.{code}
 use Rattle.interleaving.specs.Interleaving.{code_below, column_of_code, row_of_code}
 use Rattle.interleaving.specs.Splitting.{code_wider}
-use Rattle.interleaving.specs.Spreads.{spreads}
 use Rattle.location.specs.Levels.{side_of, side_is_power}
 use Rattle.lattice.specs.Directions.{point, x_of, y_of, edge, tail, digit}
 use Rattle.lattice.specs.Outlines.{x_of_point, y_of_point, tail-edge, digit-edge}
@@ -35,10 +34,9 @@ use Rattle.given_outlines.specs.CycleByCycle.{start_told, FromItsStart, first_pi
 use Rattle.sequences.specs.Says.{Says, says_no, denied}
 use Rattle.cycle_checks.specs.Comparing.{Matches, Compared, code_of_edge}
 
--- The list is a map of regions, and the table is that of the spread numbers.
-pub record Checkable (n : ℕ) (table map : List ℕ) : Type 0 where
+-- The list is a map of regions.
+pub record Checkable (n : ℕ) (map : List ℕ) : Type 0 where
   pub small : n ≤ 8
-  pub spread : table ≡ spreads
   pub mapped : Mapped n map
 
 -- The answer says whether the corners `points`, owned by the region `owner`, are a cycle of the map from its start. Where they are, its
@@ -183,12 +181,12 @@ module _ {n x y : ℕ} {points map : List ℕ} (h : FirstCorner n points map x y
 
 -- ---- the tests in the code's order
 
-module _ {n : ℕ} {table map : List ℕ} (ok : Checkable n table map) (points : List ℕ) where
+module _ {n : ℕ} {map : List ℕ} (ok : Checkable n map) (points : List ℕ) where
   first-corner : FirstCorner n points map (get_or points 0 0 % 512) (get_or points 0 0 / 512)
   unfolding point
   first-corner = record { small = ok.small; mapped = ok.mapped; narrow = omega arith; told = omega arith }
 
-module _ {n : ℕ} {table map : List ℕ} (ok : Checkable n table map) (owner : ℕ) (points : List ℕ) where
+module _ {n : ℕ} {map : List ℕ} (ok : Checkable n map) (owner : ℕ) (points : List ℕ) where
   refused : (FromItsStart n (nums_of n map) owner points → ⊥) → CycleChecked n owner points map map false
   refused no_cycle = record { long = refl; answer = says_no no_cycle; marked = λ e. absurd (false≢true e) }
 

@@ -1,15 +1,14 @@
 -- The walk along one cycle that compares its corners with given ones and marks its eastward edges: what holds before each run, and that a
 -- run keeps it.
-use Rattle.std.specs.Prelude.{◌≡◌, refl, ◌≢◌, ◌⊎◌, Bool, true, false, not, length, get_or, eqb, leb}
+use Rattle.std.specs.Prelude.{◌≡◌, refl, ◌≢◌, ◌⊎◌, Bool, true, false, not, length, get_or, eqb}
 use Rattle.std.proofs.Math.Path.{sym, ap}
-use Rattle.std.proofs.Common.{ap₂, ◌∙◌, subst, inl, inr, le_trans, add-one, arith, length-append, length-take-le, take-suc, eqb-true, eq-eqb, leb-true, le-leb}
+use Rattle.std.proofs.Common.{ap₂, ◌∙◌, subst, inl, inr, le_trans, add-one, arith, length-append, length-take-le, take-suc, eqb-true, eq-eqb}
 use Rattle.std.proofs.lemmas.Bool.{false≢true}
 use mathlib.Core.List.{List, [], ◌∷◌, ◌++◌, append_assoc, append-nil}
 use Prim.Native.Nat.{ℕ, ◌+◌, ◌*◌, ◌%◌, ◌≤◌, ◌<◌}
 use Rattle.std.proofs.Math.ListN.{take}
 use Rattle.std.proofs.Math.Seq.{take-length, get_or-append_seam}
 use Rattle.interleaving.specs.Codes.{code}
-use Rattle.interleaving.specs.Spreads.{spreads}
 use Rattle.lattice.specs.Directions.{point, x_of, y_of, edge, tail, digit}
 use Rattle.lattice.specs.Walks.{turns}
 use Rattle.lattice.specs.Corners.{turns-turn}
@@ -25,7 +24,7 @@ use Rattle.cycles.specs.Points.{EdgeAt, way_at, at_start, not_at_start}
 use Rattle.cycles.specs.Rounds.{FirstEdge, rest, left_after, rest_none, Before, set_out, square-here, edge_here, rest-first, onward, all_marked}
 use Rattle.cycles.specs.Straight.{Straight, Gone, RunDone, run-done}
 use Rattle.cycles.specs.Walking.{corners_from}
-use Rattle.sequences.specs.Says.{Says, says_yes, says_no, denied}
+use Rattle.sequences.specs.Says.{Says, says_no, denied}
 use Rattle.cycle_checks.specs.Runs.{east_inside, RunEdges, run-edges}
 
 -- The given corners are those of the cycle through the edge s of a map, and no eastward edge of the cycle has a pixel with a smaller code on
@@ -47,9 +46,8 @@ pub record CornerAgrees (given : List ℕ) (used least x y d : ℕ) : Type 0 whe
   pub same : get_or given used 0 ≡ point x y
   pub not-below : d ≡ 0 → least ≤ code 8 x y
 
--- What the test needs: the numbers are small, and the table is that of the spread numbers.
-pub record CornerDue (table given : List ℕ) (used x y d : ℕ) : Type 0 where
-  pub spread : table ≡ spreads
+-- What the test needs: the numbers are small.
+pub record CornerDue (given : List ℕ) (used x y d : ℕ) : Type 0 where
   pub within : used ≤ length given
   pub x_low : x ≤ 256
   pub y_low : y ≤ 256
@@ -79,25 +77,6 @@ unfolding code_right
 code_of_edge x y d h l =
     ap (λ (p : ℕ). code 8 (x_of p) (y_of p)) (tail-edge (point x y) d l) ∙ ap₂ (code 8) (x_of_point x y h) (y_of_point x y h)
 
--- ---- the test at a corner, case by case
-
-module _ {given : List ℕ} {used least x y d : ℕ} where
-  pub none_left : used ≡ length given → Says false (CornerAgrees given used least x y d)
-  none_left e = says_no (λ a. omega (arith, a.some))
-
-  pub another_corner : get_or given used 0 ≢ point x y → Says false (CornerAgrees given used least x y d)
-  another_corner n = says_no (λ a. n a.same)
-
-  module _ (some : used < length given) (same : get_or given used 0 ≡ point x y) where
-    pub not_eastward : d ≢ 0 → Says true (CornerAgrees given used least x y d)
-    not_eastward n = says_yes (record { some = some; same = same; not-below = λ z. absurd (n z) })
-
-    pub by_code : {c : ℕ} → c ≡ code 8 x y → d ≡ 0 → Says (leb least c) (CornerAgrees given used least x y d)
-    by_code {c} e z = (
-      λ h. record { some = some; same = same; not-below = λ _. subst (λ (v : ℕ). least ≤ v) e (leb-true least c h) },
-      λ a. le-leb least c (subst (λ (v : ℕ). least ≤ v) (sym e) (a.not-below z)),
-    )
-
 module _ {side r s : ℕ} {map₀ given map : List ℕ} {used x y d : ℕ} (first : FirstEdge side r s map₀) (w : Comparing side r s map₀ given map used x y d) where
   pub edge_at : EdgeAt side r map x y d
   edge_at = record { square = square-here first.square w.round; x_low = w.x_low; low = w.low; on_region = edge_here first.square w.round }
@@ -112,8 +91,8 @@ module _ {side r s : ℕ} {map₀ given map : List ℕ} {used x y d : ℕ} (firs
       (omega (arith, f.0), omega (arith, f.1))
 
   -- What the test at the corner needs.
-  pub corner_due : {table : List ℕ} → table ≡ spreads → CornerDue table given used x y d
-  corner_due e = let v = way_at edge_at in record { spread = e; within = w.within; x_low = v.x_low; y_low = v.y_low; inside = inside_there }
+  pub corner_due : CornerDue given used x y d
+  corner_due = let v = way_at edge_at in record { within = w.within; x_low = v.x_low; y_low = v.y_low; inside = inside_there }
 
   -- The corner is not yet taken.
   due_there : take used given ++ point x y ∷ turns (digit (edge (point x y) d)) (rest (map_at side map₀) s (step (map_at side map₀) (edge (point x y) d)))

@@ -8,4 +8,5 @@ pub mod Rounds
 pub mod CycleStarts
 pub mod Straight
 pub mod Walking
+pub mod Turns
 pub mod Written

@@ -1,15 +1,17 @@
 -- An edge in the code's numbers: its tail (x, y) and its digit d; the place of its mark, and the edge after it.
-use Rattle.std.specs.Prelude.{◌≡◌, ◌≢◌, List, length}
+use Rattle.std.specs.Prelude.{◌≡◌, ◌≢◌, Bool, true, false, ◌&&◌, eqb, List, length}
+use Rattle.std.proofs.lemmas.Grind.{common_steps}
 use Rattle.std.proofs.Math.Path.{sym, ap, ap₂, subst}
 use Rattle.std.proofs.Common.{◌∙◌, arith}
-use Prim.Native.Nat.{ℕ, ◌+◌, ◌*◌, ◌≤◌, ◌<◌}
+use Rattle.std.proofs.Common.{subst₂}
+use Prim.Native.Nat.{ℕ, zero, suc, ◌+◌, ◌-◌, ◌*◌, ◌≤◌, ◌<◌}
 use Rattle.std.proofs.Math.ListN.{set}
-use Rattle.lattice.specs.Directions.{point, move, edge, tail, digit, head}
+use Rattle.lattice.specs.Directions.{point, x_of, y_of, move, edge, tail, digit, head}
 use Rattle.lattice.specs.Outlines.{x_of_point, y_of_point, tail-edge, digit-edge}
-use Rattle.grid.specs.Steps.{Edge, turn, step}
+use Rattle.grid.specs.Steps.{Side, Edge, turn, step}
 use Rattle.grid.specs.Sides.{right_x, right_y}
-use Rattle.grid.specs.Undoing.{step_is}
-use Rattle.steps.specs.Look.{mark_bit, map_at, Square, row_small, at_margin}
+use Rattle.grid.specs.Undoing.{fits, step_is}
+use Rattle.steps.specs.Look.{mark_bit, map_at, Square, row_small, at_margin, column_at, row_at, around_at}
 use Rattle.steps.specs.Rule.{Way, way, move_x, move_y, Moved, moved}
 use Rattle.cycles.specs.Marks.{mark, spot, mark_made, mark_other, length-mark, RightPixel, right_pixel, region_known, map-kept}
 
@@ -26,6 +28,25 @@ pub record MarkPlace (k side r : ℕ) (map : List ℕ) (x y d i j : ℕ) : Type 
   pub inside : j * side + i < side * side
   pub known : r < mark_bit
   pub after : mark k side r map (edge (point x y) d) ≡ set map (j * side + i) (r + mark_bit)
+
+pub record RightPlace (k side r : ℕ) (map : List ℕ) (x y d : ℕ) : Type 0 where
+  pub column_above : 0 < column_at x k
+  pub row_above : 0 < row_at y k
+  pub place : MarkPlace k side r map x y d (column_at x k - 1) (row_at y k - 1)
+  pub small : (row_at y k - 1) * side + (column_at x k - 1) < 65536
+
+right_column : (p k : ℕ) {x : ℕ} → x_of p ≡ x → right_x p k ≡ column_at x k - 1
+unfolding right_x column_at
+right_column p zero e = omega (arith, e)
+right_column p (suc zero) e = omega (arith, e)
+right_column p (suc (suc k)) e = ap (λ v. v - 1) e
+
+right_row : (p k : ℕ) {y : ℕ} → y_of p ≡ y → right_y p k ≡ row_at y k - 1
+unfolding right_y row_at
+right_row p zero e = omega (arith, e)
+right_row p (suc zero) e = ap (λ v. v - 1) e
+right_row p (suc (suc zero)) e = ap (λ v. v - 1) e
+right_row p (suc (suc (suc k))) e = omega (arith, e)
 
 module _ {side r x y d : ℕ} {map : List ℕ} (a : EdgeAt side r map x y d) where
   pub way_at : Way x y d
@@ -47,9 +68,24 @@ module _ {side r x y d : ℕ} {map : List ℕ} (a : EdgeAt side r map x y d) whe
         after = mark_made k side r map e o ∙ ap (λ q. set map q (r + mark_bit)) at;
       }
 
-  pub east_place : d ≡ 0 → MarkPlace 0 side r map x y d x y
-  unfolding right_x right_y
-  east_place z = mark-place z (x_of_point x y a.x_low) (y_of_point x y a.x_low)
+  -- The pixel on the right, where the digit k is marked: a column and a row less than in the map with a margin.
+  pub right_place : {k : ℕ} → d ≡ k → RightPlace k side r map x y d
+  unfolding right_x right_y column_at row_at
+  right_place {k} z =
+      let ex : x_of (point x y) ≡ x = x_of_point x y a.x_low in
+      let ey : y_of (point x y) ≡ y = y_of_point x y a.x_low in
+      let s : Side (map_at side map) r (point x y) k =
+      subst₂ (Side (map_at side map) r) (tail-edge (point x y) d a.low) (digit-edge (point x y) d a.low ∙ z) a.on_region.side in
+      let f = fits (map_at side map) (at_margin side map a.square.small) r (column_at (x_of (point x y)) k) (row_at (y_of (point x y)) k)
+      a.on_region.a_region (around_at (map_at side map) (point x y) k ∙ s.on_right) in
+      let p : MarkPlace k side r map x y d (column_at x k - 1) (row_at y k - 1) =
+      mark-place z (right_column (point x y) k ex) (right_row (point x y) k ey) in
+      record {
+        column_above = subst (λ v. 0 < column_at v k) ex f.0;
+        row_above = subst (λ v. 0 < row_at v k) ey f.2;
+        place = p;
+        small = omega (arith, p.inside, row_small side side a.square.small a.square.small);
+      }
 
   pub no_mark : (k : ℕ) → d ≢ k → mark k side r map (edge (point x y) d) ≡ map
   no_mark k n = mark_other k side r map (edge (point x y) d) (λ h. n (sym (digit-edge (point x y) d a.low) ∙ h))
@@ -88,3 +124,13 @@ at_start column row x y d h = omega arith
 pub not_at_start : (column row x y d : ℕ) → 4 * (512 * y + x) + d ≢ 4 * (512 * row + column) → edge (point x y) d ≢ edge (point column row) 0
 unfolding edge point
 not_at_start column row x y d n h = n (omega arith)
+
+-- The same test field by field, as the code's `==` makes it.
+abbrev pub same_edge : ℕ → ℕ → ℕ → ℕ → ℕ → Bool
+same_edge column row x y d = eqb x column && (eqb y row && eqb d 0)
+
+pub is_start : (column row x y d : ℕ) → same_edge column row x y d ≡ true → 4 * (512 * y + x) + d ≡ 4 * (512 * row + column)
+is_start column row x y d h = grind (arith, common_steps)
+
+pub is_no_start : (column row x y d : ℕ) → column < 512 → x ≤ 256 → d < 4 → same_edge column row x y d ≡ false → 4 * (512 * y + x) + d ≢ 4 * (512 * row + column)
+is_no_start column row x y d low_column low_x low_d h = grind (arith, common_steps)

@@ -11,68 +11,67 @@ ghost use Rattle.cycles.specs.Straight.{Gone};
 ghost use Rattle.cycles.specs.Walking.{Ready, CycleWalked};
 ghost use Rattle.cycles.specs.Promise.{StartsHere, CycleWritten};
 
-use steps::MARK_BIT;
+use steps::{EAST, Edge, MARK_BIT};
 
-// Marks the pixel of the region r on the right of the edge from (x, y) with the digit d, if the edge goes eastward.
-fn mark_east(map: &mut [u32], side: u32, r: u32, x: u32, y: u32, d: u8)
-    requires { EdgeAt side r map.old x y d }
-    ensures { map.new ≡ mark 0 side r map.old (edge (point x y) d) }
+// Marks the pixel of the region r on the right of the edge, if it has the digit MARKED.
+fn mark<const MARKED: u8>(map: &mut [u32], side: u32, r: u32, at: Edge)
+    requires { EdgeAt side r map.old at.x at.y at.d }
+    ensures { map.new ≡ mark MARKED side r map.old (edge (point at.x at.y) at.d) }
 {
-    if d == 0 {
-        let i = (y * side + x) as usize;
+    if at.d == MARKED {
+        let column = steps::column_at(at.x, MARKED);
+        let row = steps::row_at(at.y, MARKED);
+        let i = ((row - 1) * side + (column - 1)) as usize;
         map[i] = r + MARK_BIT;
     }
 }
 
-// A unit edge: its tail (x, y) and its digit d.
-#[derive(Clone, Copy)]
-struct Edge {
-    x: u32,
-    y: u32,
-    d: u8,
-}
-
-// Goes straight on from the edge at (column, row) with the digit d up to the first turn; gives the edge after it.
-fn straight(map: &mut [u32], side: u32, r: u32, column: u32, row: u32, d: u8) -> Edge
-    requires { EdgeAt side r map.old column row d }
-    ensures { Gone 0 side r map.old column row d map.new result.x result.y result.d }
+// Goes straight on from the edge at (column, row) with the digit D up to the first turn, and marks each edge with the digit MARKED; gives the
+// edge after it. Both digits are constants, so that each direction has a loop of its own.
+fn straight<const MARKED: u8, const D: u8>(
+    map: &mut [u32],
+    side: u32,
+    r: u32,
+    column: u32,
+    row: u32,
+) -> Edge
+    requires { EdgeAt side r map.old column row D }
+    ensures { Gone MARKED side r map.old column row D map.new result.x result.y result.d }
 {
-    let mut x = column;
-    let mut y = row;
+    let mut edge = Edge {
+        x: column,
+        y: row,
+        d: D,
+    };
     loop {
-        mark_east(map, side, r, x, y, d);
-        x = steps::next_x(x, d);
-        y = steps::next_y(y, d);
-        let next = steps::next_digit(map, side, r, x, y, d);
-        if next != d {
-            return Edge {
-                x: x,
-                y: y,
-                d: next,
-            };
+        mark::<MARKED>(map, side, r, edge);
+        let next = edge.next(map, side, r);
+        if next.d != D {
+            return next;
         }
+        edge = next;
     }
 }
 
-// The same along a row, with the digit written out at each call, so that each direction has a loop of its own.
-fn along_row(map: &mut [u32], side: u32, r: u32, x: u32, y: u32, d: u8) -> Edge
-    requires { EdgeAt side r map.old x y d × (d % 2 ≡ 0) }
-    ensures { Gone 0 side r map.old x y d map.new result.x result.y result.d }
+// The same along a row.
+pub fn along_row<const MARKED: u8>(map: &mut [u32], side: u32, r: u32, at: Edge) -> Edge
+    requires { EdgeAt side r map.old at.x at.y at.d × (at.d % 2 ≡ 0) }
+    ensures { Gone MARKED side r map.old at.x at.y at.d map.new result.x result.y result.d }
 {
-    match d {
-        0 => straight(map, side, r, x, y, 0),
-        _ => straight(map, side, r, x, y, 2),
+    match at.d {
+        0 => straight::<MARKED, 0>(map, side, r, at.x, at.y),
+        _ => straight::<MARKED, 2>(map, side, r, at.x, at.y),
     }
 }
 
 // The same along a column.
-fn along_column(map: &mut [u32], side: u32, r: u32, x: u32, y: u32, d: u8) -> Edge
-    requires { EdgeAt side r map.old x y d × (d % 2 ≡ 1) }
-    ensures { Gone 0 side r map.old x y d map.new result.x result.y result.d }
+pub fn along_column<const MARKED: u8>(map: &mut [u32], side: u32, r: u32, at: Edge) -> Edge
+    requires { EdgeAt side r map.old at.x at.y at.d × (at.d % 2 ≡ 1) }
+    ensures { Gone MARKED side r map.old at.x at.y at.d map.new result.x result.y result.d }
 {
-    match d {
-        1 => straight(map, side, r, x, y, 1),
-        _ => straight(map, side, r, x, y, 3),
+    match at.d {
+        1 => straight::<MARKED, 1>(map, side, r, at.x, at.y),
+        _ => straight::<MARKED, 3>(map, side, r, at.x, at.y),
     }
 }
 
@@ -85,7 +84,7 @@ fn leg_area(x: u32, y: u32, z: u32) -> i32
 }
 
 // A cycle that was walked: how many corners were written, and its area.
-#[derive(Clone, Copy)]
+#[derive(Clone, Copy, Debug, PartialEq, Eq)]
 pub struct Walked {
     pub corners: usize,
     pub area: i32,
@@ -98,22 +97,23 @@ fn walk(map: &mut [u32], side: u32, r: u32, column: u32, row: u32, corners: &mut
     ensures { CycleWalked side r (edge (point column row) 0) map.old corners.old map.new corners.new
         result.corners result.area }
 {
+    let start = Edge {
+        x: column,
+        y: row,
+        d: EAST,
+    };
+    let mut edge = start;
     let mut used: usize = 0;
     let mut area: i32 = 0;
-    let mut x = column;
-    let mut y = row;
-    let mut d: u8 = 0;
     loop {
-        corners[used] = 512 * y + x;
-        let turn = along_row(map, side, r, x, y, d);
-        corners[used + 1] = 512 * turn.y + turn.x;
-        let next = along_column(map, side, r, turn.x, turn.y, turn.d);
-        used = used + 2;
+        corners[used] = edge.tail();
+        let turn = along_row::<EAST>(map, side, r, edge);
+        corners[used + 1] = turn.tail();
+        let next = along_column::<EAST>(map, side, r, turn);
+        used += 2;
         let sum = area + leg_area(turn.x, turn.y, next.y);
-        x = next.x;
-        y = next.y;
-        d = next.d;
-        if 4 * (512 * y + x) + (d as u32) == 4 * (512 * row + column) {
+        edge = next;
+        if edge == start {
             return Walked {
                 corners: used,
                 area: sum,

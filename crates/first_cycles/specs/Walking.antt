@@ -1,41 +1,16 @@
--- The walk along one cycle that marks its westward edges: the place of a mark, what holds before each run, and that a run keeps it.
-use Rattle.std.specs.Prelude.{◌≡◌, ◌≢◌, List, ℕ, ◌+◌, ◌-◌, ◌*◌, ◌%◌, ◌<◌, length, get_or}
-use Rattle.std.proofs.Common.{sym, ap, ◌∙◌, subst, subst₂, arith}
+-- The walk along one cycle that marks its westward edges: what holds before each run, and that a run keeps it.
+use Rattle.std.specs.Prelude.{◌≡◌, ◌≢◌, List, ℕ, ◌+◌, ◌*◌, ◌%◌, ◌<◌, length, get_or}
+use Rattle.std.proofs.Common.{sym, subst, arith}
 use Rattle.interleaving.specs.Codes.{code}
 use Rattle.location.specs.Levels.{side_of}
-use Rattle.lattice.specs.Directions.{point, x_of, y_of, edge}
-use Rattle.lattice.specs.Outlines.{x_of_point, y_of_point, tail-edge, digit-edge}
-use Rattle.grid.specs.Map.{around}
-use Rattle.grid.specs.Steps.{Side}
-use Rattle.grid.specs.Undoing.{fits}
+use Rattle.lattice.specs.Directions.{point, edge}
 use Rattle.grid.specs.Cycles.{cycle_from}
-use Rattle.grid.specs.Sides.{right_x, right_y}
-use Rattle.steps.specs.Look.{mark_bit, map_at, at_margin}
+use Rattle.steps.specs.Look.{mark_bit, map_at}
 use Rattle.cycles.specs.Marks.{marks}
-use Rattle.cycles.specs.Points.{EdgeAt, MarkPlace, mark-place, at_start, not_at_start}
+use Rattle.cycles.specs.Points.{EdgeAt, at_start, not_at_start}
 use Rattle.cycles.specs.Rounds.{FirstEdge, left_after, Before, set_out, square-here, edge_here, onward, all_marked}
 use Rattle.cycles.specs.Straight.{Straight, Gone, RunDone, run-done}
 use Rattle.cycles.specs.CycleStarts.{CycleStart, CycleMarked, first_edge, cycle_marked_lem, side_here}
-
--- The mark of a westward edge, as the code finds its place: one column and one row back.
-pub record WestPlace (side r : ℕ) (map : List ℕ) (x y d : ℕ) : Type 0 where
-  pub x_above : 0 < x
-  pub y_above : 0 < y
-  pub place : MarkPlace 2 side r map x y d (x - 1) (y - 1)
-
-pub west-place : {side r x y d : ℕ} {map : List ℕ} → EdgeAt side r map x y d → d ≡ 2 → WestPlace side r map x y d
-unfolding right_x right_y around
-west-place {side} {r} {x} {y} {d} {map} a z =
-    let ex : x_of (point x y) ≡ x = x_of_point x y a.x_low in
-    let ey : y_of (point x y) ≡ y = y_of_point x y a.x_low in
-    let s : Side (map_at side map) r (point x y) 2 =
-    subst₂ (Side (map_at side map) r) (tail-edge (point x y) d a.low) (digit-edge (point x y) d a.low ∙ z) a.on_region.side in
-    let f = fits (map_at side map) (at_margin side map a.square.small) r (x_of (point x y)) (y_of (point x y)) a.on_region.a_region s.on_right in
-    record {
-      x_above = omega (arith, f.0, ex);
-      y_above = omega (arith, f.2, ey);
-      place = mark-place a z (ap (λ v. v - 1) ex) (ap (λ v. v - 1) ey);
-    }
 
 -- Before a run: the edge from (x, y) with the digit d is the next one.
 pub record NextEdge (side r s : ℕ) (map₀ map : List ℕ) (x y d : ℕ) : Type 0 where

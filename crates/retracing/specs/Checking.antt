@@ -10,7 +10,6 @@ use Rattle.std.proofs.Math.ListN.{get_or}
 use Rattle.sequences.specs.Powers.{pow2_mono}
 use Rattle.interleaving.specs.Codes.{code}
 use Rattle.interleaving.specs.Splitting.{code_wider}
-use Rattle.interleaving.specs.Spreads.{spreads}
 use Rattle.lattice.specs.Directions.{x_of, y_of}
 use Rattle.orbits.specs.Members.{In}
 use Rattle.grid.specs.Cycles.{corner_of, north_side, cycle}
@@ -75,8 +74,8 @@ module _ {n : ℕ} {os es cs map₀ : List ℕ} (ok : Retraceable n os es cs map
   }
 
   module _ {map : List ℕ} {k b least : ℕ} (w : Checking n os es cs map₀ map k b least) where
-    pub checkable : {table : List ℕ} → table ≡ spreads → Checkable n table map
-    checkable e = record { small = ok.small; spread = e; mapped = w.kept.mapped }
+    pub checkable : Checkable n map
+    checkable = record { small = ok.small; mapped = w.kept.mapped }
 
     pub finish : length es ≤ k → EachChecked n (cycles_in os es cs) map₀ map true
     finish h =

@@ -3,7 +3,6 @@
 
 ghost use Rattle.std.specs.Prelude.{◌≡◌, ◌≤◌, ◌<◌, length};
 ghost use Rattle.interleaving.specs.Codes.{code};
-ghost use Rattle.interleaving.specs.Spreads.{spreads};
 ghost use Rattle.lattice.specs.Directions.{x_of, y_of};
 ghost use Rattle.cycles.specs.Mapped.{Mapped};
 ghost use Rattle.given_outlines.specs.Given.{cycles_in};
@@ -14,12 +13,12 @@ ghost use Rattle.retracing.specs.Checking.{EachChecked};
 ghost use Rattle.retracing.specs.LastPass.{Passes, EachMarked};
 
 use cycle_checks::cycle_agrees;
-use interleaving::code8;
+use interleaving::{code8, Spreads};
 use steps::MARK_BIT;
 
 // The rank of the cycle of the region `owner` whose first corner is p: cycles are listed by region number, then by the code of the start pixel.
-fn rank(table: &[u16; 256], owner: u32, p: u32) -> u64
-    requires { (table.now ≡ spreads) × (x_of p < 256) × (y_of p < 256) }
+fn rank(table: &Spreads, owner: u32, p: u32) -> u64
+    requires { (x_of p < 256) × (y_of p < 256) }
     ensures { result ≡ rank owner (code 8 (x_of p) (y_of p)) }
 {
     65536 * owner as u64 + code8(table, (p % 512) as usize, (p / 512) as usize) as u64
@@ -29,19 +28,18 @@ fn rank(table: &[u16; 256], owner: u32, p: u32) -> u64
 // map is free.
 fn each_agrees(
     n: u32,
-    table: &[u16; 256],
+    table: &Spreads,
     owners: &[u32],
     ends: &[u32],
     corners: &[u32],
     map: &mut [u32],
 ) -> bool
-    requires { Retraceable n owners.now ends.now corners.now map.old × (table.now ≡ spreads) }
+    requires { Retraceable n owners.now ends.now corners.now map.old }
     ensures { EachChecked n (cycles_in owners.now ends.now corners.now) map.old map.new result }
 {
-    let mut k: usize = 0;
     let mut begin: usize = 0;
     let mut least: u64 = 0;
-    while k < ends.len() {
+    for k in 0..ends.len() {
         let end = ends[k] as usize;
         let owner = owners[k];
         if !cycle_agrees(n, table, owner, &corners[begin..end], map) {
@@ -51,7 +49,6 @@ fn each_agrees(
         if r < least {
             return false;
         }
-        k = k + 1;
         begin = end;
         least = r + 1;
     }
@@ -64,13 +61,7 @@ fn passes(map: &[u32], side: usize, i: usize) -> bool
     ensures { Says result (Passes side map.now i) }
 {
     let here = map[i];
-    if MARK_BIT <= here {
-        return true;
-    }
-    if i < side {
-        return false;
-    }
-    map[i - side] % MARK_BIT == here
+    MARK_BIT <= here || (side <= i && map[i - side] % MARK_BIT == here)
 }
 
 // Whether each pixel whose north side is an edge bears a mark.
@@ -79,13 +70,10 @@ fn each_marked(n: u32, map: &[u32]) -> bool
     ensures { Says result (EachMarked n map.now) }
 {
     let side = location::side(n);
-    let count = location::pixels(n);
-    let mut i: usize = 0;
-    while i < count {
+    for i in 0..location::pixels(n) {
         if !passes(map, side, i) {
             return false;
         }
-        i = i + 1;
     }
     true
 }
@@ -97,8 +85,5 @@ pub fn cycles_agree(n: u32, owners: &[u32], ends: &[u32], corners: &[u32], map: 
     ensures { Retraced n (cycles_in owners.now ends.now corners.now) map.old map.new result }
 {
     let table = location::table::spreads();
-    if !each_agrees(n, &table, owners, ends, corners, map) {
-        return false;
-    }
-    each_marked(n, map)
+    each_agrees(n, &table, owners, ends, corners, map) && each_marked(n, map)
 }

@@ -7,10 +7,47 @@ ghost use Rattle.lattice.specs.Directions.{point};
 ghost use Rattle.grid.specs.Map.{around};
 ghost use Rattle.grid.specs.Steps.{turn};
 ghost use Rattle.steps.specs.Look.{map_at, Square, column_at, row_at};
-ghost use Rattle.steps.specs.Rule.{move_x, move_y};
+ghost use Rattle.steps.specs.Rule.{Way, move_x, move_y};
 
-// What a mark adds to an entry of the map: `mark_bit`.
+// What a mark adds to an entry of the map: `mark_bit`. A mark and a region share one number, since the map lies in the `u32` work list
+// that a C caller lends, and nothing is allocated.
 pub const MARK_BIT: u32 = 131072;
+
+// The digits of the edges that are marked: those of north sides, and those of south sides. A digit is a `u8`, since `next_x` and `next_y`
+// answer for every `u8`; a narrower type would ask more of their callers.
+pub const EAST: u8 = 0;
+
+pub const WEST: u8 = 2;
+
+// A unit edge: its tail (x, y) and its digit d.
+#[derive(Clone, Copy, Debug, PartialEq, Eq)]
+pub struct Edge {
+    pub x: u32,
+    pub y: u32,
+    pub d: u8,
+}
+
+impl Edge {
+    // The number of the tail.
+    pub fn tail(self) -> u32
+        requires { (self.x < 512) × (self.y < 512) }
+        ensures { result ≡ point self.x self.y }
+    {
+        512 * self.y + self.x
+    }
+
+    // The edge after it by the rule of steps, in the region r.
+    pub fn next(self, map: &[u32], side: u32, r: u32) -> Edge
+        requires { Square side map.now × Way self.x self.y self.d × (self.d < 4) }
+        ensures { (result.x ≡ move_x self.x self.d) × (result.y ≡ move_y self.y self.d)
+            × (result.d ≡ turn (map_at side map.now) r (point result.x result.y) self.d) × (result.d < 4) }
+    {
+        let x = next_x(self.x, self.d);
+        let y = next_y(self.y, self.d);
+        let d = next_digit(map, side, r, x, y, self.d);
+        Edge { x, y, d }
+    }
+}
 
 // The map with a margin at (x, y), without its mark: 0 outside the image.
 fn look(map: &[u32], side: u32, x: u32, y: u32) -> u32
@@ -34,7 +71,7 @@ fn look(map: &[u32], side: u32, x: u32, y: u32) -> u32
 }
 
 // The column in the map with a margin of the pixel of the digit d around a point of the column x.
-fn column_at(x: u32, d: u8) -> u32
+pub fn column_at(x: u32, d: u8) -> u32
     requires { x < 512 }
     ensures { result ≡ column_at x d }
 {
@@ -42,7 +79,7 @@ fn column_at(x: u32, d: u8) -> u32
 }
 
 // The row of the pixel of the digit d around a point of the row y.
-fn row_at(y: u32, d: u8) -> u32
+pub fn row_at(y: u32, d: u8) -> u32
     requires { y < 512 }
     ensures { result ≡ row_at y d }
 {

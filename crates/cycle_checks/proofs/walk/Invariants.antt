@@ -5,8 +5,8 @@ use Rattle.cycles.specs.Rounds.{left_after}
 use Rattle.cycle_checks.specs.Comparing.{Comparing}
 use Rattle.cycle_checks.proofs.walk.Given as goal
 
-abbrev pub invariant-loop-side : goal.invariant-loop-side
-invariant-loop-side l = Comparing l.side l.r (edge (point l.column l.row) 0) l.initial.map l.given l.map l.used l.x l.y l.d
+abbrev pub invariant-loop-start : goal.invariant-loop-start
+invariant-loop-start l = Comparing l.side l.r (edge (point l.column l.row) 0) l.initial.map l.given l.map l.used l.edge.x l.edge.y l.edge.d
 
-abbrev pub decreases-loop-side : goal.decreases-loop-side
-decreases-loop-side l = left_after l.side (edge (point l.column l.row) 0) l.initial.map l.x l.y l.d
+abbrev pub decreases-loop-start : goal.decreases-loop-start
+decreases-loop-start l = left_after l.side (edge (point l.column l.row) 0) l.initial.map l.edge.x l.edge.y l.edge.d

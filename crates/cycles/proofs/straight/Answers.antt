@@ -1,55 +1,25 @@
 use native.Mathlib.Omega.{arith}
-use Rattle.steps.specs.Rule.{Way}
-use Rattle.cycles.specs.Points.{way_at, moved_on, square_then}
-use Rattle.cycles.specs.Straight.{onward_from, OneFurther, one_further}
+use Rattle.cycles.specs.Points.{way_at, square_then}
+use Rattle.cycles.specs.Straight.{one_further}
 use Rattle.cycles.proofs.straight.Goals as goal
 
-pub loop-side-init : goal.loop-side-init
-loop-side-init c = onward_from c.requires
+pub next-next-requires : goal.next-next-requires
+next-next-requires g c =
+    let w = c.loop-next.invariant in
+    let e = w.same_digit in
+    (square_then w.straight_here.at g.row.MARKED (rw e at c.mark.ensures), rw e (way_at w.straight_here.at), omega (arith, e, w.straight_here.at.low))
 
-pub mark_east-requires : goal.mark_east-requires
-mark_east-requires c = c.loop-side.invariant.at
+pub returns-then-next : goal.returns-then-next
+returns-then-next g c = let f = c.next-next.ensures in let e = c.loop-next.invariant.same_digit in
+    (one_further c.loop-next.invariant.straight_here (rw e at c.mark.ensures) (rw e at f.0) (rw e at f.1) (rw e at f.2, f.3)).ends c.if-next.true
 
-pub next_x-x-requires : goal.next_x-x-requires
-next_x-x-requires c =
-    let way-here : Way c.loop-side.x c.loop-side.y c.args.d = way_at c.loop-side.invariant.at in
-    let w = way-here in (w.west, omega (arith, w.x_low))
+pub loop-next-smaller : goal.loop-next-smaller
+loop-next-smaller g c = let f = c.next-next.ensures in let e = c.loop-next.invariant.same_digit in
+    (one_further c.loop-next.invariant.straight_here (rw e at c.mark.ensures) (rw e at f.0) (rw e at f.1) (rw e at f.2, f.3)).nearer
 
-pub next_y-y-requires : goal.next_y-y-requires
-next_y-y-requires c =
-    let way-here : Way c.loop-side.x c.loop-side.y c.args.d = way_at c.loop-side.invariant.at in
-    let w = way-here in (w.north, omega (arith, w.y_low))
-
-pub next_digit-next-requires : goal.next_digit-next-requires
-next_digit-next-requires c =
-    let l = c.loop-side.invariant in
-    let k = moved_on l.at c.next_x-x.ensures c.next_y-y.ensures in
-    (square_then l.at 0 c.mark_east.ensures, omega (arith, k.x_low), omega (arith, k.y_low), l.at.low)
-
-pub shape_of-map-then-next-d : goal.shape_of-map-then-next-d
-shape_of-map-then-next-d c =
-    let turn-done : let l = c.loop-side in let a = c.args in OneFurther 0 a.side a.r a.map.now a.column a.row c.mark_east.new.map l.x l.y a.d c.next_x-x.result c.next_y-y.result c.next_digit-next.result =
-    one_further c.loop-side.invariant c.mark_east.ensures c.next_x-x.ensures c.next_y-y.ensures
-    c.next_digit-next.ensures in
-    turn-done.long
-
-pub returns-then-next-d : goal.returns-then-next-d
-returns-then-next-d c =
-    let turn-done : let l = c.loop-side in let a = c.args in OneFurther 0 a.side a.r a.map.now a.column a.row c.mark_east.new.map l.x l.y a.d c.next_x-x.result c.next_y-y.result c.next_digit-next.result =
-    one_further c.loop-side.invariant c.mark_east.ensures c.next_x-x.ensures c.next_y-y.ensures
-    c.next_digit-next.ensures in
-    turn-done.ends c.if-next-d.true
-
-pub loop-side-smaller : goal.loop-side-smaller
-loop-side-smaller c =
-    let turn-done : let l = c.loop-side in let a = c.args in OneFurther 0 a.side a.r a.map.now a.column a.row c.mark_east.new.map l.x l.y a.d c.next_x-x.result c.next_y-y.result c.next_digit-next.result =
-    one_further c.loop-side.invariant c.mark_east.ensures c.next_x-x.ensures c.next_y-y.ensures
-    c.next_digit-next.ensures in
-    turn-done.nearer
-
-pub loop-side-preserved : goal.loop-side-preserved
-loop-side-preserved c =
-    let turn-done : let l = c.loop-side in let a = c.args in OneFurther 0 a.side a.r a.map.now a.column a.row c.mark_east.new.map l.x l.y a.d c.next_x-x.result c.next_y-y.result c.next_digit-next.result =
-    one_further c.loop-side.invariant c.mark_east.ensures c.next_x-x.ensures c.next_y-y.ensures
-    c.next_digit-next.ensures in
-    turn-done.again c.if-next-d.false
+pub loop-next-preserved : goal.loop-next-preserved
+loop-next-preserved g c = let f = c.next-next.ensures in let e = c.loop-next.invariant.same_digit in
+    record {
+      straight_here = (one_further c.loop-next.invariant.straight_here (rw e at c.mark.ensures) (rw e at f.0) (rw e at f.1) (rw e at f.2, f.3)).again c.if-next.false;
+      same_digit = c.if-next.false;
+    }

@@ -1,79 +1,37 @@
-use mathlib.Core.Path.{refl}
+-- Each goal is a fact of the two runs of a turn.
+use mathlib.Core.Path.{refl, sym, ◌∙◌}
 use native.Mathlib.Omega.{arith}
-use Rattle.cycles.specs.Rounds.{start_low}
+use Rattle.cycles.specs.Points.{is_start, is_no_start}
 use Rattle.first_cycles.specs.Walking.{at_first, edge_at, one_run_more, row_done}
 use Rattle.first_cycles.proofs.walk.Goals as goal
 
-pub loop-y-init : goal.loop-y-init
-loop-y-init c = (at_first c.args.column c.args.row c.requires.0 c.requires.1, refl)
+pub loop-start-init : goal.loop-start-init
+loop-start-init c = (at_first c.args.column c.args.row c.requires.0 c.requires.1, refl)
 
 pub along_row-turn-requires : goal.along_row-turn-requires
-along_row-turn-requires c = (edge_at c.args.column c.args.row c.requires.0 c.loop-y.invariant.0, c.loop-y.invariant.1)
+along_row-turn-requires c = (edge_at c.args.column c.args.row c.requires.0 c.loop-start.invariant.0, c.loop-start.invariant.1)
 
-pub along_column-next-requires : goal.along_column-next-requires
-along_column-next-requires c =
-    let column-next = row_done c.args.column c.args.row c.requires.0 c.loop-y.invariant.0 c.loop-y.invariant.1 c.along_row-turn.ensures in
+pub along_column-edge-requires : goal.along_column-edge-requires
+along_column-edge-requires c =
+    let column-next = row_done c.args.column c.args.row c.requires.0 c.loop-start.invariant.0 c.loop-start.invariant.1 c.along_row-turn.ensures in
     (edge_at c.args.column c.args.row c.requires.0 column-next.next, column-next.odd)
 
-pub overflow_mul-y : goal.overflow_mul-y
-overflow_mul-y c =
-    let column-next = row_done c.args.column c.args.row c.requires.0 c.loop-y.invariant.0 c.loop-y.invariant.1 c.along_row-turn.ensures in
-    let turn-done = one_run_more c.args.column c.args.row c.requires.0 column-next.next c.along_column-next.ensures in
-    omega (arith, turn-done.small)
+pub returns-then-eq : goal.returns-then-eq
+returns-then-eq c =
+    let column-next = row_done c.args.column c.args.row c.requires.0 c.loop-start.invariant.0 c.loop-start.invariant.1 c.along_row-turn.ensures in
+    (one_run_more c.args.column c.args.row c.requires.0 column-next.next c.along_column-edge.ensures).ends
+    (is_start _ _ _ _ _ (sym c.eq.ensures ∙ c.if-eq.true))
 
-pub overflow_add-y : goal.overflow_add-y
-overflow_add-y c =
-    let column-next = row_done c.args.column c.args.row c.requires.0 c.loop-y.invariant.0 c.loop-y.invariant.1 c.along_row-turn.ensures in
-    let turn-done = one_run_more c.args.column c.args.row c.requires.0 column-next.next c.along_column-next.ensures in
-    omega (arith, turn-done.small)
+pub loop-start-smaller : goal.loop-start-smaller
+loop-start-smaller c =
+    let column-next = row_done c.args.column c.args.row c.requires.0 c.loop-start.invariant.0 c.loop-start.invariant.1 c.along_row-turn.ensures in
+    let g = c.along_column-edge.ensures in
+    let other = is_no_start c.args.column c.args.row c.along_column-edge.result.x c.along_column-edge.result.y c.along_column-edge.result.d c.requires.1 g.x_low g.low (sym c.eq.ensures ∙ c.if-eq.false) in
+    omega (arith, (one_run_more c.args.column c.args.row c.requires.0 column-next.next g).shorter other, column-next.nearer)
 
-pub overflow_mul-y-in-loop-y : goal.overflow_mul-y-in-loop-y
-overflow_mul-y-in-loop-y c =
-    let column-next = row_done c.args.column c.args.row c.requires.0 c.loop-y.invariant.0 c.loop-y.invariant.1 c.along_row-turn.ensures in
-    let turn-done = one_run_more c.args.column c.args.row c.requires.0 column-next.next c.along_column-next.ensures in
-    omega (arith, turn-done.small)
-
-pub overflow_add-y-in-loop-y : goal.overflow_add-y-in-loop-y
-overflow_add-y-in-loop-y c =
-    let column-next = row_done c.args.column c.args.row c.requires.0 c.loop-y.invariant.0 c.loop-y.invariant.1 c.along_row-turn.ensures in
-    let turn-done = one_run_more c.args.column c.args.row c.requires.0 column-next.next c.along_column-next.ensures in
-    omega (arith, turn-done.small)
-
-pub overflow_mul-row : goal.overflow_mul-row
-overflow_mul-row c =
-    let start-here = start_low c.args.column c.args.row c.requires.0 c.requires.1 in
-    let w = start-here in omega (arith, w.x_low, w.y_low)
-
-pub overflow_add-row : goal.overflow_add-row
-overflow_add-row c =
-    let start-here = start_low c.args.column c.args.row c.requires.0 c.requires.1 in
-    let w = start-here in omega (arith, w.x_low, w.y_low)
-
-pub overflow_mul-row-in-loop-y : goal.overflow_mul-row-in-loop-y
-overflow_mul-row-in-loop-y c =
-    let start-here = start_low c.args.column c.args.row c.requires.0 c.requires.1 in
-    let w = start-here in omega (arith, w.x_low, w.y_low)
-
-pub shape_of-map-then-y-x : goal.shape_of-map-then-y-x
-shape_of-map-then-y-x c =
-    let column-next = row_done c.args.column c.args.row c.requires.0 c.loop-y.invariant.0 c.loop-y.invariant.1 c.along_row-turn.ensures in
-    let turn-done = one_run_more c.args.column c.args.row c.requires.0 column-next.next c.along_column-next.ensures in
-    turn-done.long
-
-pub returns-then-y-x : goal.returns-then-y-x
-returns-then-y-x c =
-    let column-next = row_done c.args.column c.args.row c.requires.0 c.loop-y.invariant.0 c.loop-y.invariant.1 c.along_row-turn.ensures in
-    let turn-done = one_run_more c.args.column c.args.row c.requires.0 column-next.next c.along_column-next.ensures in
-    turn-done.ends c.if-y-x.true
-
-pub loop-y-smaller : goal.loop-y-smaller
-loop-y-smaller c =
-    let column-next = row_done c.args.column c.args.row c.requires.0 c.loop-y.invariant.0 c.loop-y.invariant.1 c.along_row-turn.ensures in
-    let turn-done = one_run_more c.args.column c.args.row c.requires.0 column-next.next c.along_column-next.ensures in
-    omega (arith, turn-done.shorter c.if-y-x.false, column-next.nearer)
-
-pub loop-y-preserved : goal.loop-y-preserved
-loop-y-preserved c =
-    let column-next = row_done c.args.column c.args.row c.requires.0 c.loop-y.invariant.0 c.loop-y.invariant.1 c.along_row-turn.ensures in
-    let turn-done = one_run_more c.args.column c.args.row c.requires.0 column-next.next c.along_column-next.ensures in
-    (turn-done.again c.if-y-x.false, omega (arith, c.along_column-next.ensures.turned, column-next.odd))
+pub loop-start-preserved : goal.loop-start-preserved
+loop-start-preserved c =
+    let column-next = row_done c.args.column c.args.row c.requires.0 c.loop-start.invariant.0 c.loop-start.invariant.1 c.along_row-turn.ensures in
+    let g = c.along_column-edge.ensures in
+    let other = is_no_start c.args.column c.args.row c.along_column-edge.result.x c.along_column-edge.result.y c.along_column-edge.result.d c.requires.1 g.x_low g.low (sym c.eq.ensures ∙ c.if-eq.false) in
+    ((one_run_more c.args.column c.args.row c.requires.0 column-next.next g).again other, omega (arith, g.turned, column-next.odd))

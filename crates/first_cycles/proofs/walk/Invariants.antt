@@ -7,8 +7,8 @@ use Rattle.cycles.specs.Rounds.{left_after}
 use Rattle.first_cycles.specs.Walking.{NextEdge}
 use Rattle.first_cycles.proofs.walk.Given as goal
 
-abbrev pub invariant-loop-y : goal.invariant-loop-y
-invariant-loop-y l = NextEdge l.side l.r (edge (point l.column l.row) 0) l.initial.map l.map l.x l.y l.d × (l.d % 2 ≡ 0)
+abbrev pub invariant-loop-start : goal.invariant-loop-start
+invariant-loop-start l = NextEdge l.side l.r (edge (point l.column l.row) 0) l.initial.map l.map l.edge.x l.edge.y l.edge.d × (l.edge.d % 2 ≡ 0)
 
-abbrev pub decreases-loop-y : goal.decreases-loop-y
-decreases-loop-y l = left_after l.side (edge (point l.column l.row) 0) l.initial.map l.x l.y l.d
+abbrev pub decreases-loop-start : goal.decreases-loop-start
+decreases-loop-start l = left_after l.side (edge (point l.column l.row) 0) l.initial.map l.edge.x l.edge.y l.edge.d

@@ -10,65 +10,64 @@ use Rattle.retracing.specs.Checking.{corner-inside, x_low, y_low, out_of_order, 
 use Rattle.retracing.proofs.each_agrees.Goals as goal
 
 pub loop-k-init : goal.loop-k-init
-loop-k-init c = begin c.requires.0
+loop-k-init c = begin c.requires
 
 pub bounds-owners-k : goal.bounds-owners-k
-bounds-owners-k c = owner-inside c.requires.0 c.loop-k.invariant c.loop-k-test.true
+bounds-owners-k c = owner-inside c.requires c.loop-k.invariant c.loop-k-test.true
 
 pub offset_bounds-corners-begin : goal.offset_bounds-corners-begin
 offset_bounds-corners-begin c =
-    let part-begins : let l = c.loop-k in l.begin ≤ get_or c.args.ends.now l.k 0 = end_not_before c.requires.0 c.loop-k.invariant c.loop-k-test.true in
-    let part-ends : let a = c.args in get_or a.ends.now c.loop-k.k 0 ≤ length a.corners.now = end_inside c.requires.0 c.loop-k.invariant c.loop-k-test.true in
+    let part-begins : let l = c.loop-k in l.begin ≤ get_or c.args.ends.now l.k 0 = end_not_before c.requires c.loop-k.invariant c.loop-k-test.true in
+    let part-ends : let a = c.args in get_or a.ends.now c.loop-k.k 0 ≤ length a.corners.now = end_inside c.requires c.loop-k.invariant c.loop-k-test.true in
     omega (arith, part-begins, part-ends)
 
 pub slice_bounds-cycle_agrees-count : goal.slice_bounds-cycle_agrees-count
 slice_bounds-cycle_agrees-count c =
-    let part-begins : let l = c.loop-k in l.begin ≤ get_or c.args.ends.now l.k 0 = end_not_before c.requires.0 c.loop-k.invariant c.loop-k-test.true in
+    let part-begins : let l = c.loop-k in l.begin ≤ get_or c.args.ends.now l.k 0 = end_not_before c.requires c.loop-k.invariant c.loop-k-test.true in
     part-begins
 
 pub slice_bounds-cycle_agrees-start : goal.slice_bounds-cycle_agrees-start
 slice_bounds-cycle_agrees-start c =
-    let part-begins : let l = c.loop-k in l.begin ≤ get_or c.args.ends.now l.k 0 = end_not_before c.requires.0 c.loop-k.invariant c.loop-k-test.true in
+    let part-begins : let l = c.loop-k in l.begin ≤ get_or c.args.ends.now l.k 0 = end_not_before c.requires c.loop-k.invariant c.loop-k-test.true in
     part-begins
 
 pub slice_bounds-cycle_agrees-end : goal.slice_bounds-cycle_agrees-end
 slice_bounds-cycle_agrees-end c =
-    let part-ends : let a = c.args in get_or a.ends.now c.loop-k.k 0 ≤ length a.corners.now = end_inside c.requires.0 c.loop-k.invariant c.loop-k-test.true in
+    let part-ends : let a = c.args in get_or a.ends.now c.loop-k.k 0 ≤ length a.corners.now = end_inside c.requires c.loop-k.invariant c.loop-k-test.true in
     part-ends
 
 pub cycle_agrees-requires : goal.cycle_agrees-requires
-cycle_agrees-requires c = checkable c.requires.0 c.loop-k.invariant c.requires.1
+cycle_agrees-requires c = checkable c.requires c.loop-k.invariant
 
 pub shape_of-map-then-not-cycle_agrees : goal.shape_of-map-then-not-cycle_agrees
-shape_of-map-then-not-cycle_agrees c = long_then c.requires.0 c.loop-k.invariant c.loop-k-test.true c.cycle_agrees.ensures
+shape_of-map-then-not-cycle_agrees c = long_then c.requires c.loop-k.invariant c.loop-k-test.true c.cycle_agrees.ensures
 
 pub returns-then-not-cycle_agrees : goal.returns-then-not-cycle_agrees
-returns-then-not-cycle_agrees c = not_a_cycle c.requires.0 c.loop-k.invariant c.loop-k-test.true c.cycle_agrees.ensures (ap not c.if-not-cycle_agrees.true)
+returns-then-not-cycle_agrees c = not_a_cycle c.requires c.loop-k.invariant c.loop-k-test.true c.cycle_agrees.ensures (ap not c.if-not-cycle_agrees.true)
 
 pub offset_bounds-corners-begin-in-loop-k : goal.offset_bounds-corners-begin-in-loop-k
 offset_bounds-corners-begin-in-loop-k c =
     let corner-there : c.loop-k.begin < length c.args.corners.now =
-    corner-inside c.requires.0 c.loop-k.invariant c.loop-k-test.true c.cycle_agrees.ensures (ap not c.if-not-cycle_agrees.false) in
+    corner-inside c.requires c.loop-k.invariant c.loop-k-test.true c.cycle_agrees.ensures (ap not c.if-not-cycle_agrees.false) in
     omega (arith, corner-there)
 
 pub bounds-corners-begin : goal.bounds-corners-begin
 bounds-corners-begin c =
     let corner-there : c.loop-k.begin < length c.args.corners.now =
-    corner-inside c.requires.0 c.loop-k.invariant c.loop-k-test.true c.cycle_agrees.ensures (ap not c.if-not-cycle_agrees.false) in
+    corner-inside c.requires c.loop-k.invariant c.loop-k-test.true c.cycle_agrees.ensures (ap not c.if-not-cycle_agrees.false) in
     corner-there
 
 pub rank-r-requires : goal.rank-r-requires
 rank-r-requires c = (
-  c.requires.1,
-  x_low c.requires.0 c.loop-k.invariant c.loop-k-test.true c.cycle_agrees.ensures (ap not c.if-not-cycle_agrees.false),
-  y_low c.requires.0 c.loop-k.invariant c.loop-k-test.true c.cycle_agrees.ensures (ap not c.if-not-cycle_agrees.false),
+  x_low c.requires c.loop-k.invariant c.loop-k-test.true c.cycle_agrees.ensures (ap not c.if-not-cycle_agrees.false),
+  y_low c.requires c.loop-k.invariant c.loop-k-test.true c.cycle_agrees.ensures (ap not c.if-not-cycle_agrees.false),
 )
 
 pub shape_of-map-then-r-least : goal.shape_of-map-then-r-least
-shape_of-map-then-r-least c = long_then c.requires.0 c.loop-k.invariant c.loop-k-test.true c.cycle_agrees.ensures
+shape_of-map-then-r-least c = long_then c.requires c.loop-k.invariant c.loop-k-test.true c.cycle_agrees.ensures
 
 pub returns-then-r-least : goal.returns-then-r-least
-returns-then-r-least c = out_of_order c.requires.0 c.loop-k.invariant c.loop-k-test.true c.cycle_agrees.ensures (ap not c.if-not-cycle_agrees.false) c.rank-r.ensures c.if-r-least.true
+returns-then-r-least c = out_of_order c.requires c.loop-k.invariant c.loop-k-test.true c.cycle_agrees.ensures (ap not c.if-not-cycle_agrees.false) c.rank-r.ensures c.if-r-least.true
 
 pub overflow_add-least : goal.overflow_add-least
 overflow_add-least c =
@@ -78,14 +77,11 @@ overflow_add-least c =
     let o = get_or a.owners.now l.k 0 in
     omega (arith, c.rank-r.ensures, rank_low o (x_of p) (y_of p) (omega (arith, c.type_inv.owners l.k)))
 
-pub loop-k-smaller : goal.loop-k-smaller
-loop-k-smaller c = omega (arith, c.loop-k-test.true)
-
 pub loop-k-preserved : goal.loop-k-preserved
-loop-k-preserved c = again c.requires.0 c.loop-k.invariant c.loop-k-test.true c.cycle_agrees.ensures (ap not c.if-not-cycle_agrees.false) c.rank-r.ensures c.if-r-least.false
+loop-k-preserved c = again c.requires c.loop-k.invariant c.loop-k-test.true c.cycle_agrees.ensures (ap not c.if-not-cycle_agrees.false) c.rank-r.ensures c.if-r-least.false
 
 pub shape_of-map : goal.shape_of-map
 shape_of-map c = c.loop-k.invariant.long
 
 pub returns : goal.returns
-returns c = finish c.requires.0 c.loop-k.invariant c.loop-k-test.false
+returns c = finish c.requires c.loop-k.invariant c.loop-k-test.false

@@ -1,23 +1,16 @@
 use Rattle.std.specs.Prelude.{not}
 use Rattle.std.proofs.Math.Path.{ap}
-use native.Mathlib.Omega.{arith}
-use Rattle.retracing.specs.LastPass.{begin, place_inside, unmarked_found, again, finish}
+use Rattle.retracing.specs.LastPass.{place_inside, unmarked_found, again, finish}
 use Rattle.retracing.proofs.each_marked.Goals as goal
 
-pub loop-i-init : goal.loop-i-init
-loop-i-init c = let p = c.requires in begin p.0 p.1
-
 pub passes-requires : goal.passes-requires
-passes-requires c = place_inside c.loop-i.invariant c.pixels-count.ensures c.loop-i-test.true
+passes-requires c = place_inside c.loop-i.invariant c.pixels-i-end.ensures c.loop-i-test.true
 
 pub returns-then-not-passes : goal.returns-then-not-passes
-returns-then-not-passes c = unmarked_found c.loop-i.invariant c.pixels-count.ensures c.side-side.ensures c.loop-i-test.true c.passes.ensures (ap not c.if-not-passes.true)
-
-pub loop-i-smaller : goal.loop-i-smaller
-loop-i-smaller c = omega (arith, c.loop-i-test.true)
+returns-then-not-passes c = unmarked_found c.loop-i.invariant c.pixels-i-end.ensures c.side-side.ensures c.loop-i-test.true c.passes.ensures (ap not c.if-not-passes.true)
 
 pub loop-i-preserved : goal.loop-i-preserved
-loop-i-preserved c = again c.loop-i.invariant c.pixels-count.ensures c.side-side.ensures c.loop-i-test.true c.passes.ensures (ap not c.if-not-passes.false)
+loop-i-preserved c = again c.loop-i.invariant c.pixels-i-end.ensures c.side-side.ensures c.loop-i-test.true c.passes.ensures (ap not c.if-not-passes.false)
 
 pub returns : goal.returns
-returns c = finish c.loop-i.invariant c.pixels-count.ensures c.loop-i-test.false
+returns c = finish c.loop-i.invariant c.pixels-i-end.ensures c.loop-i-test.false

@@ -1,10 +1,6 @@
--- The loop's invariant: the places before i pass. The measure: the places that are left.
-use Prim.Native.Nat.{◌-◌}
+-- The loop's invariant: the places before i pass.
 use Rattle.retracing.specs.LastPass.{Passing}
 use Rattle.retracing.proofs.each_marked.Given as goal
 
 abbrev pub invariant-loop-i : goal.invariant-loop-i
 invariant-loop-i l = Passing l.n l.map l.i
-
-abbrev pub decreases-loop-i : goal.decreases-loop-i
-decreases-loop-i l = l.count - l.i

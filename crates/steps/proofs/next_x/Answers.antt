@@ -13,4 +13,4 @@ pub returns-in-2 : goal.returns-in-2
 returns-in-2 c = x_west _ _ c.in-2.is
 
 pub returns-in_default : goal.returns-in_default
-returns-in_default c = x_other _ _ c.in_default.in_default-own.rest.0.1 c.in_default.in_default-own.rest.1
+returns-in_default c = x_other _ _ (omega arith) (omega arith)

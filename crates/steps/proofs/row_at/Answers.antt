@@ -1,4 +1,5 @@
 -- The two northern pixels around a point have the digits 1 and 2.
+use native.Mathlib.Omega.{arith}
 use Rattle.steps.specs.Rule.{row_1, row_2, row_other}
 use Rattle.steps.proofs.row_at.Goals as goal
 
@@ -9,4 +10,4 @@ pub returns-in-2 : goal.returns-in-2
 returns-in-2 c = row_2 _ _ c.in-2.is
 
 pub returns-in_default : goal.returns-in_default
-returns-in_default c = row_other _ _ c.in_default.in_default-own.rest.0.1 c.in_default.in_default-own.rest.1
+returns-in_default c = row_other _ _ (omega arith) (omega arith)
