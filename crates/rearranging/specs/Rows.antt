@@ -12,16 +12,14 @@ use Rattle.sequences.specs.Powers.{pow2_pos, pow2_mono, pow4_mono, square_of_sid
 use Rattle.interleaving.specs.Codes.{code}
 use Rattle.interleaving.specs.Interleaving.{code_below}
 use Rattle.interleaving.specs.Splitting.{code_wider}
-use Rattle.interleaving.specs.Spreads.{spreads}
 use Rattle.location.specs.Levels.{side_of, side_is_power}
-use Rattle.rearranging.specs.Ways.{Way, to_block_order, to_rows, rearranged, code_at, source_place, target_place, pixel_inside, code_of_pixel}
+use Rattle.rearranging.specs.Ways.{Way, to_block_order, to_rows, rearranged, code_at, read_at, written_at, source_place, target_place, pixel_inside, code_of_pixel}
 use Rattle.rearranging.specs.Moving.{with_entry, moved, length_moved, moved_more, all_moved}
 use Rattle.rearranging.specs.Promise.{Fits}
 
--- What is asked for a row: the right table, and a row of the image.
-pub record RowFits (n : ℕ) (table : List ℕ) (y source target : ℕ) : Type 0 where
+-- What is asked for a row: that it is one of the image.
+pub record RowFits (n y source target : ℕ) : Type 0 where
   pub fit : Fits n source target
-  pub table_is : table ≡ spreads
   pub inside : y < 2 ^ n
 
 -- ---- one pixel of a row of w pixels: its place in the rows, and its code by the table
@@ -29,7 +27,7 @@ pub record RowFits (n : ℕ) (table : List ℕ) (y source target : ℕ) : Type 0
 pub width : {n source target w : ℕ} → Fits n source target → w ≡ side_of n → w ≡ 2 ^ n
 width {n} f side = side ∙ side_is_power n (omega (arith, f.small))
 
-module _ {n : ℕ} {table : List ℕ} {y source target w : ℕ} (f : RowFits n table y source target) (side : w ≡ side_of n) where
+module _ {n y source target w : ℕ} (f : RowFits n y source target) (side : w ≡ side_of n) where
   -- The number of pixels, and the bytes of their coordinates.
   pub few : (4 ^ n ≤ 65536) × (y < 256) × (y * w < 65536)
   few =
@@ -68,6 +66,20 @@ module _ {n : ℕ} {table : List ℕ} {y source target w : ℕ} (f : RowFits n t
         → set raster (y * w + x) (get_or stored c 0) ≡ with_entry to_rows n stored (y * 2 ^ n + x) raster
     unfolding with_entry target_place source_place
     pixel_fetched stored raster e = ap₂ (λ (d i : ℕ). set raster i (get_or stored d 0)) (e ∙ code_is) at
+
+    -- Either way.
+    pub read_inside : {c : ℕ} (way : Way) → c ≡ code 8 x y → read_at way (y * w + x) c < 4 ^ n
+    read_inside to_block_order e = place_inside
+    read_inside to_rows e = code_inside e
+
+    pub written_inside : {c : ℕ} (way : Way) → c ≡ code 8 x y → written_at way (y * w + x) c < 4 ^ n
+    written_inside to_block_order e = code_inside e
+    written_inside to_rows e = place_inside
+
+    pub pixel_moved : {c : ℕ} (way : Way) (source target : List ℕ) → c ≡ code 8 x y
+        → set target (written_at way (y * w + x) c) (get_or source (read_at way (y * w + x) c) 0) ≡ with_entry way n source (y * 2 ^ n + x) target
+    pixel_moved to_block_order source target e = pixel_stored source target e
+    pixel_moved to_rows source target e = pixel_fetched source target e
 
 -- ---- the pixels of the row y, of which those before x are moved
 
@@ -139,8 +151,8 @@ module _ (way : Way) (n : ℕ) (source : List ℕ) where
     rows-length =
         sym (length_moved way n source (y * 2 ^ n) ((2 ^ n - y) * 2 ^ n) target) ∙ ap length p.left ∙ length_moved way n source 0 (4 ^ n) target₀
 
-    pub row_fits : {table : List ℕ} → Fits n (length source) (length target₀) → table ≡ spreads → y < 2 ^ n → RowFits n table y (length source) (length target)
-    row_fits f t h = record { fit = record { small = f.small; whole = f.whole; room = omega (arith, f.room, rows-length) }; table_is = t; inside = h }
+    pub row_fits : Fits n (length source) (length target₀) → y < 2 ^ n → RowFits n y (length source) (length target)
+    row_fits f h = record { fit = record { small = f.small; whole = f.whole; room = omega (arith, f.room, rows-length) }; inside = h }
 
     pub rows-done : 2 ^ n ≤ y → 4 ^ n ≤ length target₀ → target ≡ over (rearranged way n source) target₀
     unfolding moved

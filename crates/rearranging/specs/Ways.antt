@@ -45,6 +45,15 @@ unfolding code_at
 target_place to_block_order n i = code_at n i
 target_place to_rows n i = i
 
+-- Of a pixel's place in the rows and its code: where it is read, and where it is written.
+abbrev pub read_at : Way → ℕ → ℕ → ℕ
+read_at to_block_order at code = at
+read_at to_rows at code = code
+
+abbrev pub written_at : Way → ℕ → ℕ → ℕ
+written_at to_block_order at code = code
+written_at to_rows at code = at
+
 -- Either way and then back gives the first raster.
 pub back_again : (way : Way) (n : ℕ) (first : List ℕ) → length first ≡ 4 ^ n → rearranged (back way) n (rearranged way n first) ≡ first
 unfolding rearranged

@@ -2,60 +2,51 @@
 #![tactic(auto)]
 
 ghost use Rattle.std.specs.Prelude.{◌≡◌};
+ghost use Rattle.answers.specs.Results.{said, written};
 ghost use Rattle.rearranging.specs.Ways.{to_block_order, to_rows};
 ghost use Rattle.rearranging.specs.Promise.{rearrange_number, Rearranging};
 
-use answers::Written;
+use answers::Cause;
+use moving::{Direction, ToBlockOrder, ToRows};
 
-mod fetching;
-mod storing;
+mod moving;
 
-// 1, 9 or 8 for a source and a target of these lengths, or 0.
-fn fault(n: u32, source: usize, target: usize) -> u32
-    ensures { result ≡ rearrange_number n source target }
+// Why a source and a target of these lengths are refused, if they are: 1, 9 or 8.
+fn check(n: u32, source: usize, target: usize) -> Result<(), Cause>
+    ensures { said result ≡ rearrange_number n source target }
 {
     if 8 < n {
-        return 1;
+        return Err(Cause::SideTooLarge);
     }
     let whole = location::pixels(n);
     if source != whole {
-        return 9;
+        return Err(Cause::RasterLengthWrong);
     }
     if target < whole {
-        return 8;
+        return Err(Cause::ListTooShort);
     }
-    0
+    Ok(())
 }
 
-// A refusal: its number, and no entry.
-fn refusal(number: u32) -> Written
-    ensures { result ≡ record { number = number; count = 0 } }
+// Either way: how many entries were written.
+fn rearrange<D: Direction>(n: u32, source: &[u16], target: &mut [u16]) -> Result<u32, Cause>
+    ensures { Rearranging D.way n source.now target.old target.new (written result) }
 {
-    Written { number, count: 0 }
+    check(n, source.len(), target.len())?;
+    moving::all_rows::<D>(n, source, target);
+    Ok(location::pixels(n) as u32)
 }
 
 // A row-by-row raster into block order.
-pub fn to_block_order(n: u32, raster: &[u16], stored: &mut [u16]) -> Written
-    ensures { Rearranging to_block_order n raster.now stored.old stored.new result }
+pub fn to_block_order(n: u32, raster: &[u16], stored: &mut [u16]) -> Result<u32, Cause>
+    ensures { Rearranging to_block_order n raster.now stored.old stored.new (written result) }
 {
-    let number = fault(n, raster.len(), stored.len());
-    if number != 0 {
-        return refusal(number);
-    }
-    storing::all_rows(n, raster, stored);
-    let count = location::pixels(n) as u32;
-    Written { number: 0, count }
+    rearrange::<ToBlockOrder>(n, raster, stored)
 }
 
 // A raster in block order back into rows.
-pub fn from_block_order(n: u32, stored: &[u16], raster: &mut [u16]) -> Written
-    ensures { Rearranging to_rows n stored.now raster.old raster.new result }
+pub fn from_block_order(n: u32, stored: &[u16], raster: &mut [u16]) -> Result<u32, Cause>
+    ensures { Rearranging to_rows n stored.now raster.old raster.new (written result) }
 {
-    let number = fault(n, stored.len(), raster.len());
-    if number != 0 {
-        return refusal(number);
-    }
-    fetching::all_rows(n, stored, raster);
-    let count = location::pixels(n) as u32;
-    Written { number: 0, count }
+    rearrange::<ToRows>(n, stored, raster)
 }
