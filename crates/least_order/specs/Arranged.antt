@@ -64,8 +64,9 @@ pub record Risen (whole v at : ℕ) (work₀ order₀ work order : List ℕ) (k 
 pub rises_begins : {whole v at : ℕ} {work order : List ℕ} → CanRise whole v at work order → Rises whole v at work order work order v at
 rises_begins can = record { rising = λ N up s. s; grows = omega arith; in_order = up_to_self can.within; front = front_same }
 
-pub above_zero : (x : ℕ) → x ≢ 0 → x ≡ suc (x - 1)
-above_zero x n = omega arith
+-- A number that is 1 plus a parent.
+pub one_above : {x p : ℕ} → (1 ≤ x) × (p ≡ x - 1) → x ≡ suc p
+one_above h = omega arith
 
 module _ {whole v at : ℕ} {work₀ order₀ work order : List ℕ} {u k : ℕ} (can : CanRise whole v at work₀ order₀)
     (s : Rises whole v at work₀ order₀ work order u k) where

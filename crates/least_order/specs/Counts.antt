@@ -1,5 +1,5 @@
 -- The children of each number counted: what the loop asks and gives, of every forest that the work list holds from `whole` on.
-use Rattle.std.specs.Prelude.{◌≡◌, refl, ◌≢◌, List, [], ℕ, suc, ◌+◌, ◌-◌, ◌≤◌, ◌<◌, length, get_or, set}
+use Rattle.std.specs.Prelude.{◌≡◌, refl, List, [], ℕ, suc, ◌+◌, ◌≤◌, ◌<◌, length, get_or, set}
 use Rattle.std.proofs.Common.{◌∙◌, arith, length-set, get_or-set_other}
 use Rattle.forests.specs.Forest.{ParentsBelow}
 use Rattle.forests.specs.WorkList.{ParentsFrom}
@@ -47,20 +47,17 @@ module _ {whole v : ℕ} {w : List ℕ} (can : CanCountOne whole w v) where
   pub root_counted : get_or w (whole + v) 0 ≡ 0 → CountedOne whole v w w
   root_counted z = record { counting = λ N up low h s. counting_root h s z; front = front_same }
 
-  module _ (n : get_or w (whole + v) 0 ≢ 0) where
-    above : get_or w (whole + v) 0 ≡ suc (get_or w (whole + v) 0 - 1)
-    above = omega arith
-
+  module _ {p : ℕ} (above : get_or w (whole + v) 0 ≡ suc p) where
     -- The entry of the parent, and that its count leaves room for one more.
-    pub count-place : (get_or w (whole + v) 0 - 1 < v) × (get_or w (whole + v) 0 - 1 < length w) × (get_or w (get_or w (whole + v) 0 - 1) 0 < 65536)
+    pub count-place : (p < v) × (p < length w) × (get_or w p 0 < 65536)
     count-place =
-        let l : get_or w (whole + v) 0 - 1 < v = counted_parent_lower can.below can.counting can.low _ above in
-        (l, omega (arith, parent_place), omega (arith, count_small can.below can.counting can.low _ above, parent_place, can.small))
+        let l : p < v = counted_parent_lower can.below can.counting can.low p above in
+        (l, omega (arith, parent_place), omega (arith, count_small can.below can.counting can.low p above, parent_place, can.small))
 
-    pub child_counted : CountedOne whole v w (set w (get_or w (whole + v) 0 - 1) (get_or w (get_or w (whole + v) 0 - 1) 0 + 1))
+    pub child_counted : CountedOne whole v w (set w p (get_or w p 0 + 1))
     child_counted = record {
-      counting = λ N up low h s. counting_child h s low _ above;
-      front = front-set (get_or w (whole + v) 0 - 1) (get_or w (get_or w (whole + v) 0 - 1) 0 + 1) count-place.0;
+      counting = λ N up low h s. counting_child h s low p above;
+      front = front-set p (get_or w p 0 + 1) count-place.0;
     }
 
 -- ---- all numbers

@@ -2,12 +2,13 @@
 // possible number at the first place, then at the second, and so on.
 #![tactic(auto)]
 
+ghost use Rattle.answers.specs.Results.{written};
 ghost use Rattle.least_order.specs.Counts.{CanCountOne, CountedOne, CanCount, Counted};
 ghost use Rattle.least_order.specs.Arranged.{CanRise, Risen, CanPlace, Placed, CanArrange, Arranged};
 ghost use Rattle.least_order.specs.Regions.{Arrangeable, OrderWritten};
 ghost use Rattle.least_order.specs.Promise.{LeastOrdering};
 
-use answers::Written;
+use answers::Cause;
 use parents::find_parents;
 
 // Counts v as a child of its parent, if it has one. The parents stand from `whole` on.
@@ -15,11 +16,10 @@ fn count_child(whole: usize, v: usize, work: &mut [u32])
     requires { CanCountOne whole work.old v }
     ensures { CountedOne whole v work.old work.new }
 {
-    let up = work[whole + v];
-    if up == 0 {
+    let Some(up) = work[whole + v].checked_sub(1) else {
         return;
-    }
-    work[(up - 1) as usize] += 1;
+    };
+    work[up as usize] += 1;
 }
 
 // Counts the children of each number below `count` in the front of the work list.
@@ -27,10 +27,8 @@ fn count_children(whole: usize, count: usize, work: &mut [u32])
     requires { CanCount whole count work.old }
     ensures { Counted whole count work.old work.new }
 {
-    let mut v: usize = 0;
-    while v < count {
+    for v in 0..count {
         count_child(whole, v, work);
-        v += 1;
     }
 }
 
@@ -45,11 +43,10 @@ fn rise(whole: usize, v: usize, at: usize, work: &mut [u32], order: &mut [u32]) 
     loop {
         order[k] = u as u32;
         k += 1;
-        let up = work[whole + u];
-        if up == 0 {
+        let Some(up) = work[whole + u].checked_sub(1) else {
             return k;
-        }
-        let p = (up - 1) as usize;
+        };
+        let p = up as usize;
         work[p] -= 1;
         if work[p] != 0 {
             return k;
@@ -74,11 +71,9 @@ fn place_all(whole: usize, count: usize, work: &mut [u32], order: &mut [u32])
     requires { CanArrange whole count work.old order.old }
     ensures { Arranged whole count work.old order.old work.new order.new }
 {
-    let mut at: usize = 0;
-    let mut v: usize = 0;
-    while v < count {
+    let mut at = 0;
+    for v in 0..count {
         at = place(whole, v, at, work, order);
-        v += 1;
     }
 }
 
@@ -103,7 +98,7 @@ fn arrange(
     filling::fill(work, 0, whole + count, 0);
 }
 
-// The least order of the regions from the inside out.
+// Writes the least order of the regions from the inside out, and gives how many these are.
 pub fn least_order(
     n: u32,
     codes: &[u32],
@@ -112,29 +107,15 @@ pub fn least_order(
     labels: &mut [u32],
     work: &mut [u32],
     order: &mut [u32],
-) -> Written
+) -> Result<u32, Cause>
     ensures { LeastOrdering n codes.now levels.now colours.now
-        labels.old work.old order.old labels.new work.new order.new result }
+        labels.old work.old order.old labels.new work.new order.new (written result) }
 {
     if order.len() < codes.len() {
-        let fault = blocks::check(n, codes, levels, colours);
-        if fault != 0 {
-            return Written {
-                number: fault,
-                count: 0,
-            };
-        }
-        return Written {
-            number: 8,
-            count: 0,
-        };
+        blocks::check(n, codes, levels, colours)?;
+        return Err(Cause::ListTooShort);
     }
-    let numbered = regions::number(n, codes, levels, colours, labels, work);
-    let number = numbered.number;
-    if number != 0 {
-        return Written { number, count: 0 };
-    }
-    let count = numbered.regions;
+    let count = regions::number(n, codes, levels, colours, labels, work)?;
     arrange(n, count as usize, codes, levels, labels, work, order);
-    Written { number: 0, count }
+    Ok(count)
 }

@@ -1,5 +1,5 @@
 -- The two walks along an order, which mark in the front of the work list the numbers that they have passed.
-use Rattle.std.specs.Prelude.{◌≡◌, ◌≢◌, Bool, true, false, not, List, [], ℕ, zero, suc, ◌+◌, ◌-◌, ◌≤◌, ◌<◌, length, get_or, set, eqb}
+use Rattle.std.specs.Prelude.{◌≡◌, ◌≢◌, Bool, true, false, not, List, [], ℕ, zero, suc, ◌+◌, ◌≤◌, ◌<◌, length, get_or, set, eqb}
 use Rattle.std.proofs.Math.Path.{refl, sym}
 use Rattle.std.proofs.Common.{ap, ◌∙◌, subst, arith, ext_get_or, get_or-set_other, eq-eqb, ne_eqb}
 use Rattle.std.proofs.Math.Decide.{ℕ_discrete, dec_lt}
@@ -104,18 +104,9 @@ module _ (whole : ℕ) (work : List ℕ) (v : ℕ) where
   unfolding parent_marked
   marked_none e = sym (rw (e, parent_marked) refl)
 
-  marked_some : (p : ℕ) → get_or work (whole + v) 0 ≡ suc p → parent_marked whole work v ≡ not (eqb (get_or work p 0) 0)
+  pub marked_some : (p : ℕ) → get_or work (whole + v) 0 ≡ suc p → parent_marked whole work v ≡ not (eqb (get_or work p 0) 0)
   unfolding parent_marked
   marked_some p e = rw (e, parent_marked) refl
-
-  pub marked_read : get_or work (whole + v) 0 ≢ 0 → not (eqb (get_or work (get_or work (whole + v) 0 - 1) 0) 0) ≡ parent_marked whole work v
-  marked_read n = pick (get_or work (whole + v) 0) refl
-    where
-      pick : (u : ℕ) → get_or work (whole + v) 0 ≡ u → not (eqb (get_or work (get_or work (whole + v) 0 - 1) 0) 0) ≡ parent_marked whole work v
-      pick zero e = absurd (n e)
-      pick (suc p) e =
-          let one_less : get_or work (whole + v) 0 - 1 ≡ p = omega arith in
-          ap (λ (u : ℕ). not (eqb (get_or work u 0) 0)) one_less ∙ sym (marked_some p e)
 
 -- The numbers of an order, with a blank entry each in front and their parents, which are smaller, from `whole` on.
 pub record Families (whole : ℕ) (order work : List ℕ) : Type 0 where

@@ -2,11 +2,13 @@
 #![tactic(auto)]
 
 ghost use Rattle.std.specs.Prelude.{◌≡◌, length};
+ghost use Rattle.answers.specs.Results.{said};
 ghost use Rattle.forests.specs.Checking.{is_each_once};
 ghost use Rattle.order_check.specs.Along.{Blank, NewMarked, Families, parent_marked, NumberOf, LaterMarked};
 ghost use Rattle.order_check.specs.Regions.{Orderable, Judged};
 ghost use Rattle.order_check.specs.Promise.{OrderCheck};
 
+use answers::Cause;
 use parents::find_parents;
 
 // Goes along the order and marks each number in the front of the work list, as long as it is below the order's length and new; whether all
@@ -15,9 +17,8 @@ fn all_new(order: &[u32], work: &mut [u32]) -> bool
     requires { Blank (length order.now) work.old }
     ensures { NewMarked order.now work.old work.new result }
 {
-    let mut i: usize = 0;
-    while i < order.len() {
-        let v = order[i] as usize;
+    for &number in order {
+        let v = number as usize;
         if order.len() <= v {
             return false;
         }
@@ -25,7 +26,6 @@ fn all_new(order: &[u32], work: &mut [u32]) -> bool
             return false;
         }
         work[v] = 1;
-        i += 1;
     }
     true
 }
@@ -48,11 +48,10 @@ fn parent_marked(whole: usize, work: &[u32], v: usize) -> bool
     requires { NumberOf whole work.now v }
     ensures { result ≡ parent_marked whole work.now v }
 {
-    let up = work[whole + v] as usize;
-    if up == 0 {
+    let Some(up) = work[whole + v].checked_sub(1) else {
         return false;
-    }
-    work[up - 1] != 0
+    };
+    work[up as usize] != 0
 }
 
 // Goes along the order and marks each number, as long as its parent is not marked; whether none is.
@@ -60,14 +59,12 @@ fn parents_last(whole: usize, order: &[u32], work: &mut [u32]) -> bool
     requires { Families whole order.now work.old }
     ensures { LaterMarked whole order.now work.old work.new result }
 {
-    let mut i: usize = 0;
-    while i < order.len() {
-        let v = order[i] as usize;
+    for &region in order {
+        let v = region as usize;
         if parent_marked(whole, work, v) {
             return false;
         }
         work[v] = 1;
-        i += 1;
     }
     true
 }
@@ -93,7 +90,7 @@ fn inside_out(
     right
 }
 
-// The number of an order: 0 where it is every region once, each surrounded region before each that surrounds it.
+// Why an order is refused, if it is: it has to be every region once, each surrounded region before each that surrounds it.
 pub fn check_order(
     n: u32,
     codes: &[u32],
@@ -102,21 +99,16 @@ pub fn check_order(
     order: &[u32],
     labels: &mut [u32],
     work: &mut [u32],
-) -> u32
+) -> Result<(), Cause>
     ensures { OrderCheck n codes.now levels.now colours.now order.now
-        labels.old work.old labels.new work.new result }
+        labels.old work.old labels.new work.new (said result) }
 {
-    let numbered = regions::number(n, codes, levels, colours, labels, work);
-    if numbered.number != 0 {
-        return numbered.number;
+    let count = regions::number(n, codes, levels, colours, labels, work)?;
+    if !each_once(count as usize, order, work) {
+        return Err(Cause::NotEachRegionOnce);
     }
-    let once = each_once(numbered.regions as usize, order, work);
-    if !once {
-        return 19;
+    if !inside_out(n, codes, levels, labels, order, work) {
+        return Err(Cause::NotInsideOut);
     }
-    let right = inside_out(n, codes, levels, labels, order, work);
-    if right {
-        return 0;
-    }
-    20
+    Ok(())
 }

@@ -1,3 +1,4 @@
+-- Number after number, each by its own step.
 use Rattle.least_order.specs.Counts.{counted_none, can_count_one, counted_more, counted_all}
 use Rattle.least_order.proofs.count_children.Goals as goal
 
@@ -9,9 +10,6 @@ count_child-requires c = can_count_one c.requires c.loop-v.invariant c.loop-v-te
 
 pub loop-v-preserved : goal.loop-v-preserved
 loop-v-preserved c = counted_more c.requires c.loop-v.invariant c.loop-v-test.true c.count_child.ensures
-
-pub shape_of-work : goal.shape_of-work
-shape_of-work c = c.loop-v.invariant.front.long
 
 pub returns : goal.returns
 returns c = counted_all c.requires c.loop-v.invariant c.loop-v-test.false

@@ -1,3 +1,4 @@
+-- Number after number, each by its own step.
 use Rattle.least_order.specs.Arranged.{arranged_none, can_place, arranged_more, arranged_all}
 use Rattle.least_order.proofs.place_all.Goals as goal
 
@@ -9,12 +10,6 @@ place-at-requires c = can_place c.requires c.loop-v.invariant c.loop-v-test.true
 
 pub loop-v-preserved : goal.loop-v-preserved
 loop-v-preserved c = arranged_more c.requires c.loop-v.invariant c.loop-v-test.true c.place-at.ensures
-
-pub shape_of-work : goal.shape_of-work
-shape_of-work c = c.loop-v.invariant.front.long
-
-pub shape_of-order : goal.shape_of-order
-shape_of-order c = c.loop-v.invariant.in_order.long
 
 pub returns : goal.returns
 returns c = arranged_all c.requires c.loop-v.invariant c.loop-v-test.false

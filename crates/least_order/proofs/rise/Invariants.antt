@@ -3,8 +3,8 @@
 use Rattle.least_order.specs.Arranged.{Rises}
 use Rattle.least_order.proofs.rise.Given as goal
 
-abbrev pub invariant-loop-whole : goal.invariant-loop-whole
-invariant-loop-whole l = Rises l.whole l.v l.at l.initial.work l.initial.order l.work l.order l.u l.k
+abbrev pub invariant-loop-up : goal.invariant-loop-up
+invariant-loop-up l = Rises l.whole l.v l.at l.initial.work l.initial.order l.work l.order l.u l.k
 
-abbrev pub decreases-loop-whole : goal.decreases-loop-whole
-decreases-loop-whole l = l.u
+abbrev pub decreases-loop-up : goal.decreases-loop-up
+decreases-loop-up l = l.u

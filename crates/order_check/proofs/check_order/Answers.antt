@@ -1,22 +1,27 @@
 -- `check_order` meets its contract: the numbering refuses, or leaves the labels and a blank work list; the two tests leave both as they are.
+use mathlib.Core.Path.{refl}
+use Rattle.answers.specs.Causes.{number-ne0}
+use Rattle.answers.specs.Results.{said_on}
 use Rattle.order_check.specs.Promise.{list_refused}
 use Rattle.order_check.specs.Accepting.{blank, nineteen, orderable, twenty, yes_right}
 use Rattle.order_check.proofs.check_order.Goals as goal
 
-pub returns-then-numbered-ne0 : goal.returns-then-numbered-ne0
-returns-then-numbered-ne0 c = list_refused c.number-numbered.ensures c.if-numbered-ne0.true
+pub returns-in_err-count : goal.returns-in_err-count
+returns-in_err-count c = rw (said_on _ _ c.from_residual.ensures.1) (list_refused c.in_err-count.ensures (number-ne0 c.in_err-count.field-0.0))
 
-pub each_once-once-requires : goal.each_once-once-requires
-each_once-once-requires c = blank c.number-numbered.ensures c.if-numbered-ne0.false
+pub each_once-requires : goal.each_once-requires
+each_once-requires c = blank c.in_ok-count.ensures refl
 
-pub returns-then-not-once : goal.returns-then-not-once
-returns-then-not-once c = nineteen c.number-numbered.ensures c.if-numbered-ne0.false c.args.order.now c.each_once-once.ensures c.if-not-once.true
+pub returns-then-not-each_once : goal.returns-then-not-each_once
+returns-then-not-each_once c = nineteen c.in_ok-count.ensures refl c.args.order.now c.each_once.ensures c.if-not-each_once.true
 
-pub inside_out-right-requires : goal.inside_out-right-requires
-inside_out-right-requires c = orderable c.number-numbered.ensures c.if-numbered-ne0.false c.args.order.now c.each_once-once.ensures c.if-not-once.false
+pub inside_out-requires : goal.inside_out-requires
+inside_out-requires c = orderable c.in_ok-count.ensures refl c.args.order.now c.each_once.ensures c.if-not-each_once.false
 
-pub returns-then-right : goal.returns-then-right
-returns-then-right c = yes_right c.number-numbered.ensures c.if-numbered-ne0.false c.args.order.now c.each_once-once.ensures c.if-not-once.false c.inside_out-right.ensures c.if-right.true
+pub returns-then-not-inside_out : goal.returns-then-not-inside_out
+returns-then-not-inside_out c =
+    twenty c.in_ok-count.ensures refl c.args.order.now c.each_once.ensures c.if-not-each_once.false c.inside_out.ensures c.if-not-inside_out.true
 
 pub returns : goal.returns
-returns c = twenty c.number-numbered.ensures c.if-numbered-ne0.false c.args.order.now c.each_once-once.ensures c.if-not-once.false c.inside_out-right.ensures c.if-right.false
+returns c =
+    yes_right c.in_ok-count.ensures refl c.args.order.now c.each_once.ensures c.if-not-each_once.false c.inside_out.ensures c.if-not-inside_out.false
