@@ -38,11 +38,7 @@ pub fn others_alike(raster: &[u16], w: usize, at: usize, s: usize, v: u16) -> bo
     requires { OthersFit (length raster.now) w at s }
     ensures { result ≡ beside_alike raster.now v w at s }
 {
-    if !square_alike(raster, w, at + s, s, v) {
-        return false;
-    }
-    if !square_alike(raster, w, at + s * w, s, v) {
-        return false;
-    }
-    square_alike(raster, w, at + s * w + s, s, v)
+    square_alike(raster, w, at + s, s, v)
+        && square_alike(raster, w, at + s * w, s, v)
+        && square_alike(raster, w, at + s * w + s, s, v)
 }
