@@ -8,7 +8,8 @@ ghost use Rattle.listing.specs.Regions.{ListedBefore, ListedAfter, AllListed};
 
 use starts::{Counts, list_block};
 
-// Lists the cycles of one region: along its chain of blocks from the block `first` on. The link of block j stands at 4^n + j in the work list.
+// Lists the cycles of one region: along its chain of blocks from the block `first` on. The link of block j stands at 4^n + j in the work list:
+// 1 plus the next block, 0 behind the last.
 fn list_region(
     n: u32,
     codes: &[u32],
@@ -28,8 +29,7 @@ fn list_region(
     let whole = location::pixels(n);
     let mut listed = counts;
     let mut next = first + 1;
-    while next != 0 {
-        let j = next - 1;
+    while let Some(j) = next.checked_sub(1) {
         listed = list_block(
             n, codes[j], levels[j], listed, work, owners, ends, corners, areas,
         );
@@ -39,10 +39,10 @@ fn list_region(
 }
 
 // What the pass over the blocks has reached: how many regions are listed, and how many cycles and corners of theirs.
-#[derive(Clone, Copy)]
+#[derive(Clone, Copy, Debug, PartialEq, Eq)]
 struct Reached {
-    pub regions: u32,
-    pub counts: Counts,
+    regions: u32,
+    counts: Counts,
 }
 
 // Lists the cycles of the region of block i, where it is the next one not listed yet: then i is its first block.
@@ -81,7 +81,7 @@ fn list_next(
     );
     Reached {
         regions: reached.regions + 1,
-        counts: counts,
+        counts,
     }
 }
 
@@ -109,12 +109,10 @@ pub fn list_all(
             corners: 0,
         },
     };
-    let mut i: usize = 0;
-    while i < codes.len() {
+    for i in 0..codes.len() {
         reached = list_next(
             n, codes, levels, labels, i, reached, work, owners, ends, corners, areas,
         );
-        i += 1;
     }
     reached.counts
 }

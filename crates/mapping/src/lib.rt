@@ -2,12 +2,10 @@
 // on all pixels of its square, row by row; where MARK_BIT of steps is added, the pixel's north side is an edge of a cycle that is written.
 #![tactic(auto)]
 
-ghost use Rattle.std.specs.Prelude.{◌≡◌, ◌≤◌, length};
+ghost use Rattle.std.specs.Prelude.{◌≡◌};
 ghost use Rattle.sequences.specs.Over.{over};
 ghost use Rattle.quadtree.specs.Raster.{in_rows};
 ghost use Rattle.quadtree.specs.Blocks.{blocks, paint};
-ghost use Rattle.squares.specs.Rows.{RowsFit};
-ghost use Rattle.squares.specs.Filling.{RowsFilled};
 ghost use Rattle.links.specs.Linking.{Linkable, PlacesLinked};
 ghost use Rattle.mapping.specs.Filling.{raised, Fillable};
 
@@ -17,30 +15,10 @@ pub fn link(whole: usize, count: usize, labels: &[u32], work: &mut [u32])
     requires { Linkable whole count labels.now work.old }
     ensures { PlacesLinked whole count labels.now work.old work.new }
 {
-    let mut j = count;
-    while 0 < j {
-        j -= 1;
+    for j in (0..count).rev() {
         let r = labels[j] as usize;
         work[whole + j] = work[r];
         work[r] = (j + 1) as u32;
-    }
-}
-
-// Gives the square of s rows of s entries at the place `at`, in rows of w, the value v. Most blocks of a busy picture are one pixel.
-fn fill_square(map: &mut [u32], w: usize, at: usize, s: usize, v: u32)
-    requires { (w ≤ 256) × RowsFit (length map.old) w at s s }
-    ensures { RowsFilled w at s s v map.old map.new }
-{
-    if s == 1 {
-        map[at] = v;
-        return;
-    }
-    let mut from = at;
-    let mut y: usize = 0;
-    while y < s {
-        filling::fill(map, from, s, v);
-        from += w;
-        y += 1;
     }
 }
 
@@ -51,11 +29,15 @@ pub fn fill_map(n: u32, codes: &[u32], levels: &[u8], labels: &[u32], map: &mut 
         ≡ over (in_rows n (raised (paint (blocks codes.now levels.now labels.now)))) map.old }
 {
     let w = location::side(n);
-    let mut i: usize = 0;
-    while i < codes.len() {
+    for i in 0..codes.len() {
         let s = location::side(levels[i] as u32);
         let at = location::place(n, codes[i]);
-        fill_square(map, w, at, s, labels[i] + 1);
-        i += 1;
+        let number = labels[i] + 1;
+        // Most blocks of a busy picture are one pixel.
+        if s == 1 {
+            map[at] = number;
+        } else {
+            squares::fill_square(map, w, at, s, number);
+        }
     }
 }

@@ -6,7 +6,3 @@ use Rattle.mapping.proofs.link.Given as goal
 abbrev pub invariant-loop-j : goal.invariant-loop-j
 invariant-loop-j l =
     Linking l.whole l.count l.labels l.initial.work l.work l.j
-
-abbrev pub decreases-loop-j : goal.decreases-loop-j
-decreases-loop-j l =
-    l.j
