@@ -3,6 +3,7 @@
 #![tactic(auto)]
 
 ghost use Rattle.std.specs.Prelude.{◌≡◌};
+ghost use Rattle.answers.specs.Results.{said};
 ghost use Rattle.interleaving.specs.Codes.{code};
 ghost use Rattle.quadtree.specs.Number.{number};
 ghost use Rattle.merging.specs.Promise.{FromRaster};
@@ -25,50 +26,21 @@ ghost use Rattle.svg.specs.Svg.{Svg};
 ghost use Rattle.chains.specs.ChainForm.{ChainRead};
 ghost use Rattle.pgm.specs.Reading.{Reading};
 
+use answers::{Cause, Written};
+use pgm::Picture;
+use regions::Numbered;
 use serving::{Opened, State, Turned};
+use stretches::Stretch;
+use tracing::Traced;
 
-// The number of an answer, 0 for acceptance, and how many entries were written.
-#[repr(C)]
-#[derive(Clone, Copy)]
-pub struct Written {
-    pub number: u32,
-    pub count: u32,
-}
-
-// The number of an answer, 0 for acceptance, and how many regions there are.
-#[repr(C)]
-#[derive(Clone, Copy)]
-pub struct Numbered {
-    pub number: u32,
-    pub regions: u32,
-}
-
-// The number of an answer, 0 for acceptance, and how many regions, cycles and corners there are.
-#[repr(C)]
-#[derive(Clone, Copy)]
-pub struct Traced {
-    pub number: u32,
-    pub regions: u32,
-    pub cycles: u32,
-    pub corners: u32,
-}
-
-// A part of a lent list, by its place and length.
-#[repr(C)]
-#[derive(Clone, Copy)]
-pub struct Stretch {
-    pub start: usize,
-    pub length: usize,
-}
-
-// What the reader of pictures answers: the number, n, maxval and how many samples were written.
-#[repr(C)]
-#[derive(Clone, Copy)]
-pub struct Picture {
-    pub number: u32,
-    pub n: u32,
-    pub maxval: u32,
-    pub count: u32,
+// The number of an outcome, 0 for acceptance.
+fn number_of(outcome: Result<(), Cause>) -> u32
+    ensures { result ≡ said outcome }
+{
+    match outcome {
+        Ok(()) => 0,
+        Err(cause) => u32::from(cause),
+    }
 }
 
 #[unsafe(no_mangle)]
@@ -82,7 +54,7 @@ pub extern "C" fn nettlestair_code(x: u16, y: u16) -> u32
 pub extern "C" fn nettlestair_check(n: u32, codes: &[u32], levels: &[u8], colours: &[u16]) -> u32
     ensures { result ≡ number n codes.now levels.now colours.now }
 {
-    blocks::check(n, codes, levels, colours)
+    number_of(blocks::check(n, codes, levels, colours))
 }
 
 #[unsafe(no_mangle)]
@@ -96,13 +68,10 @@ pub extern "C" fn nettlestair_blocks_from_raster(
     ensures { FromRaster n raster.now
         codes.old levels.old colours.old
         codes.new levels.new colours.new
-        (record { number = result.number; count = result.count }) }
+        result }
 {
     let merged = merging::from_raster(n, raster, codes, levels, colours);
-    Written {
-        number: merged.number,
-        count: merged.count,
-    }
+    Written::from(merged)
 }
 
 #[unsafe(no_mangle)]
@@ -115,24 +84,18 @@ pub extern "C" fn nettlestair_raster_from_blocks(
 ) -> Written
     ensures { ToRaster n codes.now levels.now colours.now
         raster.old raster.new
-        (record { number = result.number; count = result.count }) }
+        result }
 {
     let painted = painting::to_raster(n, codes, levels, colours, raster);
-    Written {
-        number: painted.number,
-        count: painted.count,
-    }
+    Written::from(painted)
 }
 
 #[unsafe(no_mangle)]
 pub extern "C" fn nettlestair_to_block_order(n: u32, raster: &[u16], stored: &mut [u16]) -> Written
-    ensures { Rearranging to_block_order n raster.now stored.old stored.new (record { number = result.number; count = result.count }) }
+    ensures { Rearranging to_block_order n raster.now stored.old stored.new result }
 {
     let ordered = rearranging::to_block_order(n, raster, stored);
-    Written {
-        number: ordered.number,
-        count: ordered.count,
-    }
+    Written::from(ordered)
 }
 
 #[unsafe(no_mangle)]
@@ -141,13 +104,10 @@ pub extern "C" fn nettlestair_from_block_order(
     stored: &[u16],
     raster: &mut [u16],
 ) -> Written
-    ensures { Rearranging to_rows n stored.now raster.old raster.new (record { number = result.number; count = result.count }) }
+    ensures { Rearranging to_rows n stored.now raster.old raster.new result }
 {
     let restored = rearranging::from_block_order(n, stored, raster);
-    Written {
-        number: restored.number,
-        count: restored.count,
-    }
+    Written::from(restored)
 }
 
 #[unsafe(no_mangle)]
@@ -168,7 +128,7 @@ pub extern "C" fn nettlestair_overlay(
         (list_of second_codes.now second_levels.now second_colours.now)
         (list_of codes.old levels.old colours.old)
         (list_of codes.new levels.new colours.new)
-        (record { number = result.number; count = result.count }) }
+        result }
 {
     let laid = overlaying::overlay(
         n,
@@ -182,10 +142,7 @@ pub extern "C" fn nettlestair_overlay(
         levels,
         colours,
     );
-    Written {
-        number: laid.number,
-        count: laid.count,
-    }
+    Written::from(laid)
 }
 
 #[unsafe(no_mangle)]
@@ -205,7 +162,7 @@ pub extern "C" fn nettlestair_touch_up(
         (list_of codes.now levels.now colours.now) x y colour
         (list_of new_codes.old new_levels.old new_colours.old)
         (list_of new_codes.new new_levels.new new_colours.new)
-        (record { number = result.number; count = result.count }) }
+        result }
 {
     let touched = touching_up::touch_up(
         n,
@@ -219,10 +176,7 @@ pub extern "C" fn nettlestair_touch_up(
         new_levels,
         new_colours,
     );
-    Written {
-        number: touched.number,
-        count: touched.count,
-    }
+    Written::from(touched)
 }
 
 #[unsafe(no_mangle)]
@@ -236,13 +190,10 @@ pub extern "C" fn nettlestair_number(
 ) -> Numbered
     ensures { Numbering n codes.now levels.now colours.now
         labels.old work.old labels.new work.new
-        (record { number = result.number; regions = result.regions }) }
+        result }
 {
     let numbered = regions::number(n, codes, levels, colours, labels, work);
-    Numbered {
-        number: numbered.number,
-        regions: numbered.regions,
-    }
+    Numbered::from(numbered)
 }
 
 #[unsafe(no_mangle)]
@@ -261,17 +212,12 @@ pub extern "C" fn nettlestair_trace(
     ensures { Tracing n codes.now levels.now colours.now
         (lent labels.old work.old owners.old ends.old corners.old areas.old)
         (lent labels.new work.new owners.new ends.new corners.new areas.new)
-        (record { number = result.number; regions = result.regions; cycles = result.cycles; corners = result.corners }) }
+        result }
 {
     let traced = tracing::trace(
         n, codes, levels, colours, labels, work, owners, ends, corners, areas,
     );
-    Traced {
-        number: traced.number,
-        regions: traced.regions,
-        cycles: traced.cycles,
-        corners: traced.corners,
-    }
+    Traced::from(traced)
 }
 
 #[unsafe(no_mangle)]
@@ -287,7 +233,8 @@ pub extern "C" fn nettlestair_check_order(
     ensures { OrderCheck n codes.now levels.now colours.now order.now
         labels.old work.old labels.new work.new result }
 {
-    order_check::check_order(n, codes, levels, colours, order, labels, work)
+    let checked = order_check::check_order(n, codes, levels, colours, order, labels, work);
+    number_of(checked)
 }
 
 #[unsafe(no_mangle)]
@@ -302,13 +249,10 @@ pub extern "C" fn nettlestair_least_order(
 ) -> Written
     ensures { LeastOrdering n codes.now levels.now colours.now
         labels.old work.old order.old labels.new work.new order.new
-        (record { number = result.number; count = result.count }) }
+        result }
 {
     let least = least_order::least_order(n, codes, levels, colours, labels, work, order);
-    Written {
-        number: least.number,
-        count: least.count,
-    }
+    Written::from(least)
 }
 
 #[unsafe(no_mangle)]
@@ -330,7 +274,7 @@ pub extern "C" fn nettlestair_blocks_from_outlines(
         (given_as regions cycles corner_count (outline_lists given_owners.now given_ends.now given_corners.now region_colours.now))
         (list_of codes.old levels.old colours.old) work.old
         (list_of codes.new levels.new colours.new) work.new
-        (record { number = result.number; count = result.count }) }
+        result }
 {
     let blocks = restoring::blocks_from_outlines(
         n,
@@ -346,28 +290,21 @@ pub extern "C" fn nettlestair_blocks_from_outlines(
         colours,
         work,
     );
-    Written {
-        number: blocks.number,
-        count: blocks.count,
-    }
+    Written::from(blocks)
 }
 
 #[unsafe(no_mangle)]
 pub extern "C" fn nettlestair_cycle(corners: &[u32], ends: &[u32], count: u32, k: u32) -> Stretch
-    ensures { Place corners.now ends.now count k (record { start = result.start; length = result.length }) }
+    ensures { Place corners.now ends.now count k result }
 {
-    let place = stretches::cycle_place(corners, ends, count, k);
-    Stretch {
-        start: place.start,
-        length: place.length,
-    }
+    stretches::cycle_place(corners, ends, count, k)
 }
 
 #[unsafe(no_mangle)]
 pub extern "C" fn nettlestair_open(state: State, cycle: u32, count: u32) -> Opened
     ensures { Opening state cycle count result }
 {
-    serving::open_cycle(state, cycle, count)
+    Opened::of(state, serving::open_cycle(state, cycle, count))
 }
 
 #[unsafe(no_mangle)]
@@ -379,41 +316,30 @@ pub extern "C" fn nettlestair_turn(
 ) -> Turned
     ensures { Turning state (lists corners.now ends.now count) result }
 {
-    serving::turn(state, corners, ends, count)
+    Turned::of(state, serving::turn(state, corners, ends, count))
 }
 
 #[unsafe(no_mangle)]
 pub extern "C" fn nettlestair_svg(corners: &[u32], text: &mut [u8]) -> Written
-    ensures { Svg corners.now text.old text.new (record { number = result.number; count = result.count }) }
+    ensures { Svg corners.now text.old text.new result }
 {
     let drawn = svg::svg(corners, text);
-    Written {
-        number: drawn.number,
-        count: drawn.count,
-    }
+    Written::from(drawn)
 }
 
 #[unsafe(no_mangle)]
 pub extern "C" fn nettlestair_read_chain(start: u32, chain: &[u8], corners: &mut [u32]) -> Written
-    ensures { ChainRead start chain.now corners.old corners.new (record { number = result.number; count = result.count }) }
+    ensures { ChainRead start chain.now corners.old corners.new result }
 {
     let read = chains::read_chain(start, chain, corners);
-    Written {
-        number: read.number,
-        count: read.count,
-    }
+    Written::from(read)
 }
 
 #[unsafe(no_mangle)]
 pub extern "C" fn nettlestair_read_pgm(bytes: &[u8], raster: &mut [u16]) -> Picture
     ensures { Reading bytes.now raster.old bytes.now raster.new
-        (record { number = result.number; n = result.n; maxval = result.maxval; count = result.count }) }
+        result }
 {
     let found = pgm::read(bytes, raster);
-    Picture {
-        number: found.number,
-        n: found.n,
-        maxval: found.maxval,
-        count: found.count,
-    }
+    Picture::from(found)
 }

@@ -1,8 +1,7 @@
 -- Turns at the cutter: the queue of open outlines, the state that holds it, what an opening and a turn answer.
 pub mod Queue
 pub mod States
-pub mod Places
 pub mod Promise
-pub mod Loops
+pub mod Answers
 pub mod Bounds
 pub mod Example

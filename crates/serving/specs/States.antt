@@ -1,6 +1,6 @@
 -- The state that holds a queue, and fixed numbers of places.
-use Rattle.std.specs.Prelude.{◌≡◌, refl, List, [], ◌∷◌, ℕ, suc, ◌-◌, ◌<◌, min, length, take, drop, get_or, replicate}
-use Rattle.std.proofs.Common.{ap, ap₂, ◌∙◌, arith, drop-cons}
+use Rattle.std.specs.Prelude.{◌≡◌, refl, List, [], ℕ, min, length, take, replicate}
+use Rattle.std.proofs.Common.{ap₂}
 use Rattle.sequences.specs.Over.{over}
 use Rattle.serving.specs.declared.OpenOutline.{OpenOutline}
 use Rattle.serving.specs.declared.State.{State}
@@ -17,10 +17,6 @@ unused = record { cycle = 0; handed = 0 }
 unfoldable pub in_eight : List OpenOutline → List OpenOutline
 unfolding over
 in_eight q = over q (replicate 8 unused)
-
--- What stands in the first place.
-abbrev pub front : List OpenOutline → OpenOutline
-front outlines = get_or outlines 0 unused
 
 -- The state of a queue.
 unfoldable pub state_of : List OpenOutline → State
@@ -42,13 +38,6 @@ unfolding over
 in_sixteen corners = over corners (replicate 16 0)
 
 -- ---- laws
-
--- Where some are open, the first place holds the front.
-pub front-first : (outlines : List OpenOutline) (size : ℕ) → 0 < size → 0 < length outlines
-    → take size outlines ≡ front outlines ∷ take (size - 1) (drop 1 outlines)
-front-first outlines size some long =
-    let e : size ≡ suc (size - 1) = omega arith in
-    ap (λ j. take j outlines) e ∙ ap (λ (l : List OpenOutline). take (suc (size - 1)) l) (drop-cons outlines 0 unused long)
 
 -- Places that hold a queue, and its length.
 pub holds_queue : (q : List OpenOutline) {outlines : List OpenOutline} {n : ℕ} → outlines ≡ in_eight q → n ≡ length q

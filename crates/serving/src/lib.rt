@@ -1,11 +1,13 @@
 // Outlines open at the cutter, served by turns (document 02, request k). A state goes in by value and comes back; nothing is allocated.
 #![tactic(auto)]
 
-ghost use Rattle.std.specs.Prelude.{◌≡◌, [], ◌∷◌, ◌++◌, ◌+◌, ◌-◌, ◌≤◌, ◌<◌, min, length, take, drop};
+ghost use Rattle.std.specs.Prelude.{◌≡◌, ◌++◌, ◌+◌, ◌<◌, length, take, drop, option_to_list};
 ghost use Rattle.serving.specs.Queue.{is_open, lists, after_serving};
-ghost use Rattle.serving.specs.States.{unused, in_eight, front, state_of, in_sixteen};
-ghost use Rattle.serving.specs.Places.{seat_of, back_of};
+ghost use Rattle.serving.specs.States.{queue_of, state_of, in_sixteen};
 ghost use Rattle.serving.specs.Promise.{Opening, Turning};
+ghost use Rattle.serving.specs.Answers.{opening_answer, turn_answer};
+
+use answers::Cause;
 
 // An open outline: its cycle, and how many of its corners were handed out.
 #[repr(C)]
@@ -15,6 +17,12 @@ pub struct OpenOutline {
     pub handed: u32,
 }
 
+// What stands in an unused place.
+const UNUSED: OpenOutline = OpenOutline {
+    cycle: 0,
+    handed: 0,
+};
+
 // The outlines that are open, from the front to the back: those in the first `length` places, eight at most.
 #[repr(C)]
 #[derive(Clone, Copy)]
@@ -23,13 +31,43 @@ pub struct State {
     pub length: u32,
 }
 
-// What stands in an unused place.
-const UNUSED: OpenOutline = OpenOutline {
-    cycle: 0,
-    handed: 0,
-};
+impl State {
+    // The open outlines.
+    fn queue(&self) -> &[OpenOutline]
+        ensures { result.now ≡ queue_of self.now }
+    {
+        &self.outlines[..(self.length as usize).min(8)]
+    }
 
-// What an opening answers: its number, 0 for acceptance, and the state.
+    // The state in which these are open, with one more at the back if there is one.
+    fn of(queue: &[OpenOutline], last: Option<OpenOutline>) -> State
+        requires { length queue.now < 8 }
+        ensures { result ≡ state_of (queue.now ++ option_to_list last) }
+    {
+        let mut outlines = [UNUSED; 8];
+        outlines[..queue.len()].copy_from_slice(queue);
+        let mut length = queue.len();
+        if let Some(outline) = last {
+            outlines[length] = outline;
+            length += 1;
+        }
+        State {
+            outlines,
+            length: length as u32,
+        }
+    }
+}
+
+// A turn that served an outline: how many corners it handed out, of which cycle, these corners, and the state.
+#[derive(Clone, Copy)]
+pub struct Served {
+    pub count: u32,
+    pub cycle: u32,
+    pub places: [u32; 16],
+    pub state: State,
+}
+
+// What an opening answers C: its number, 0 for acceptance, and the state.
 #[repr(C)]
 #[derive(Clone, Copy)]
 pub struct Opened {
@@ -37,7 +75,22 @@ pub struct Opened {
     pub state: State,
 }
 
-// What a turn answers: whether one was served, how many corners were handed out, of which cycle, these corners, and the state.
+impl Opened {
+    // The answer of an opening in a state, which a refusal leaves as it was.
+    pub fn of(state: State, outcome: Result<State, Cause>) -> Opened
+        ensures { result ≡ opening_answer state outcome }
+    {
+        match outcome {
+            Ok(state) => Opened { number: 0, state },
+            Err(cause) => Opened {
+                number: u32::from(cause),
+                state,
+            },
+        }
+    }
+}
+
+// What a turn answers C: whether one was served, how many corners were handed out, of which cycle, these corners, and the state.
 #[repr(C)]
 #[derive(Clone, Copy)]
 pub struct Turned {
@@ -48,198 +101,101 @@ pub struct Turned {
     pub state: State,
 }
 
-// How many outlines are open in a state of this length.
-fn open_count(length: u32) -> usize
-    ensures { result ≡ min 8 length }
-{
-    if 8 <= length {
-        return 8;
-    }
-    length as usize
-}
-
-// Whether a cycle is among the first `size` outlines. The second promise hands on that an array has as many entries as its type says.
-fn is_open(outlines: [OpenOutline; 8], size: usize, cycle: u32) -> bool
-    requires { size ≤ 8 }
-    ensures found { result ≡ is_open cycle (take size outlines) }
-    ensures eight { length outlines ≡ 8 }
-{
-    let mut i = 0;
-    while i < size {
-        let outline = outlines[i];
-        if outline.cycle == cycle {
-            return true;
+impl Turned {
+    // The answer of a turn in a state, which stays as it was where none is open.
+    pub fn of(state: State, turn: Option<Served>) -> Turned
+        ensures { result ≡ turn_answer state turn }
+    {
+        match turn {
+            Some(served) => {
+                let places = served.places;
+                Turned {
+                    served: true,
+                    count: served.count,
+                    cycle: served.cycle,
+                    places,
+                    state: served.state,
+                }
+            }
+            None => Turned {
+                served: false,
+                count: 0,
+                cycle: 0,
+                places: [0; 16],
+                state,
+            },
         }
-        i += 1;
     }
-    false
 }
 
-// What stands at the place i where so many outlines are kept, with one more behind them: the one that is kept there, the last, or none.
-fn seat(kept: OpenOutline, last: OpenOutline, i: usize, count: usize) -> OpenOutline
-    ensures { result ≡ seat_of kept last count i }
+// Whether a cycle is open in a queue.
+fn is_open(queue: &[OpenOutline], cycle: u32) -> bool
+    ensures { result ≡ is_open cycle queue.now }
 {
-    if i < count {
-        return kept;
-    }
-    if i == count {
-        return last;
-    }
-    UNUSED
+    queue.iter().any(|outline| outline.cycle == cycle)
 }
 
-// The first `count` outlines with one more behind them, in eight places.
-fn with_last(outlines: [OpenOutline; 8], count: usize, last: OpenOutline) -> [OpenOutline; 8]
-    requires { count < 8 }
-    ensures { result ≡ in_eight (take count outlines ++ last ∷ []) }
-{
-    [
-        seat(outlines[0], last, 0, count),
-        seat(outlines[1], last, 1, count),
-        seat(outlines[2], last, 2, count),
-        seat(outlines[3], last, 3, count),
-        seat(outlines[4], last, 4, count),
-        seat(outlines[5], last, 5, count),
-        seat(outlines[6], last, 6, count),
-        seat(outlines[7], last, 7, count),
-    ]
-}
-
-// The front left out, and each other outline one place towards the front.
-fn moved_up(outlines: [OpenOutline; 8]) -> [OpenOutline; 8]
-    ensures { result ≡ drop 1 outlines ++ unused ∷ [] }
-{
-    [
-        outlines[1],
-        outlines[2],
-        outlines[3],
-        outlines[4],
-        outlines[5],
-        outlines[6],
-        outlines[7],
-        UNUSED,
-    ]
-}
-
-// Opens a cycle, where `count` is the number of cycles: it joins at the back, or 22, 23, 24.
-pub fn open_cycle(state: State, cycle: u32, count: u32) -> Opened
-    ensures { Opening state cycle count result }
+// Opens a cycle, where `count` is the number of cycles: it joins at the back.
+pub fn open_cycle(state: State, cycle: u32, count: u32) -> Result<State, Cause>
+    ensures { Opening state cycle count (opening_answer state result) }
 {
     if count <= cycle {
-        return Opened { number: 22, state };
+        return Err(Cause::NoSuchCycle);
     }
-    let outlines = state.outlines;
-    let size = open_count(state.length);
-    if is_open(outlines, size, cycle) {
-        return Opened { number: 23, state };
+    let queue = state.queue();
+    if is_open(queue, cycle) {
+        return Err(Cause::AlreadyOpen);
     }
-    if 8 <= size {
-        return Opened { number: 24, state };
+    if 8 <= queue.len() {
+        return Err(Cause::EightOpen);
     }
-    let longer = size as u32 + 1;
-    Opened {
-        number: 0,
-        state: State {
-            outlines: with_last(outlines, size, OpenOutline { cycle, handed: 0 }),
-            length: longer,
-        },
-    }
+    Ok(State::of(queue, Some(OpenOutline { cycle, handed: 0 })))
 }
 
-// How many corners of a stretch are due after those that were handed out.
-fn still_due(length: usize, handed: u32) -> usize
-    ensures { result ≡ length - handed }
+// The corners of a stretch that are due after those that were handed out.
+fn still_due(stretch: &[u32], handed: u32) -> &[u32]
+    ensures { result.now ≡ drop handed stretch.now }
 {
-    let before = handed as usize;
-    if length <= before {
-        return 0;
-    }
-    length - before
+    stretch.get(handed as usize..).unwrap_or(&[])
 }
 
-// How many corners a turn hands out where so many are due.
-fn sixteen_at_most(due: usize) -> u32
-    ensures { result ≡ min 16 due }
+// The first of the corners that are due, in sixteen places; all others are 0.
+fn hand_out(due: &[u32]) -> [u32; 16]
+    ensures { result ≡ in_sixteen (take 16 due.now) }
 {
-    if 16 <= due {
-        return 16;
-    }
-    due as u32
-}
-
-// So many corners of a stretch after those that were handed out, in the first places; all others are 0.
-fn hand_out(stretch: &[u32], handed: u32, count: u32) -> [u32; 16]
-    requires { count ≡ min 16 (length stretch.now - handed) }
-    ensures { result ≡ in_sixteen (take 16 (drop handed stretch.now)) }
-{
+    let given = due.len().min(16);
     let mut places = [0u32; 16];
-    let from = handed as usize;
-    let end = count as usize;
-    let mut i = 0;
-    while i < end {
-        places[i] = stretch[from + i];
-        i += 1;
-    }
+    places[..given].copy_from_slice(&due[..given]);
     places
 }
 
-// What joins behind the others after the front was served, of which so many corners were due: the front itself, or none.
-fn back(served: OpenOutline, due: usize) -> OpenOutline
-    requires { 16 < due → served.handed + 16 < 4294967296 }
-    ensures { result ≡ back_of due served }
+// The state after the front was served, of which so many corners were due: it goes behind the others if more is due, else it closes.
+fn after_serving(served: OpenOutline, others: &[OpenOutline], due: usize) -> State
+    requires { (length others.now < 8) × (16 < due → served.handed + 16 < 4294967296) }
+    ensures { result ≡ state_of (after_serving due served others.now) }
 {
-    if 16 < due {
-        return OpenOutline {
+    let back = if 16 < due {
+        Some(OpenOutline {
             cycle: served.cycle,
             handed: served.handed + 16,
-        };
-    }
-    UNUSED
+        })
+    } else {
+        None
+    };
+    State::of(others, back)
 }
 
-// The state after the front was served, of which so many corners were due. The second promise is as that of `is_open`.
-fn after_serving(outlines: [OpenOutline; 8], size: usize, due: usize) -> State
-    requires { (0 < size) × (size ≤ 8) × (16 < due → (front outlines).handed + 16 < 4294967296) }
-    ensures next { result ≡ state_of (after_serving due (front outlines) (take (size - 1) (drop 1 outlines))) }
-    ensures eight { length outlines ≡ 8 }
+// A turn: the front is served, with the lists and the count of cycles that are lent for it. None is where none is open.
+pub fn turn(state: State, corners: &[u32], ends: &[u32], count: u32) -> Option<Served>
+    ensures { Turning state (lists corners.now ends.now count) (turn_answer state result) }
 {
-    let next = with_last(moved_up(outlines), size - 1, back(outlines[0], due));
-    if due <= 16 {
-        return State {
-            outlines: next,
-            length: size as u32 - 1,
-        };
-    }
-    State {
-        outlines: next,
-        length: size as u32,
-    }
-}
-
-// A turn: the front is served, with the lists and the count of cycles that are lent for it.
-pub fn turn(state: State, corners: &[u32], ends: &[u32], count: u32) -> Turned
-    ensures { Turning state (lists corners.now ends.now count) result }
-{
-    let outlines = state.outlines;
-    let size = open_count(state.length);
-    if size == 0 {
-        return Turned {
-            served: false,
-            count: 0,
-            cycle: 0,
-            places: [0; 16],
-            state,
-        };
-    }
-    let front = outlines[0];
+    let (front, others) = state.queue().split_first()?;
     let stretch = stretches::cycle(corners, ends, count, front.cycle);
-    let due = still_due(stretch.len(), front.handed);
-    let given = sixteen_at_most(due);
-    Turned {
-        served: true,
-        count: given,
+    let due = still_due(stretch, front.handed);
+    Some(Served {
+        count: due.len().min(16) as u32,
         cycle: front.cycle,
-        places: hand_out(stretch, front.handed, given),
-        state: after_serving(outlines, size, due),
-    }
+        places: hand_out(due),
+        state: after_serving(*front, others, due.len()),
+    })
 }

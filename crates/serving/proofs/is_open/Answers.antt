@@ -1,19 +1,16 @@
-use mathlib.Core.Path.{◌≡◌, sym}
-use native.Mathlib.Omega.{arith}
-use lib.ListN.{length}
-use Rattle.serving.specs.Loops.{search_begins, search_on, search_finds, search_ends}
+-- The definition asks each outline the same.
+use Rattle.std.proofs.Common.{Bool, eqb, ◌∙◌, ◌||◌, rules, tests, refl}
+use Rattle.std.specs.List.{list_any}
+use Rattle.std.proofs.lemmas.Iterator.{YieldsList-from_slice}
+use Rattle.std.proofs.lemmas.Iterator.Search.{any_from_yields_List}
+use Rattle.std.proofs.lemmas.List.Recursion.{same_from_clauses}
+use Rattle.serving.specs.declared.OpenOutline.{OpenOutline}
+use Rattle.serving.specs.Queue.{is_open}
 use Rattle.serving.proofs.is_open.Goals as goal
 
-pub loop-i-init : goal.loop-i-init
-loop-i-init c = search_begins
-
-pub returns-then-outline-cycle : goal.returns-then-outline-cycle
-returns-then-outline-cycle c =
-    let eight : length c.args.outlines ≡ 8 = omega (arith, c.well_formed.0) in
-    record { found = sym (search_finds c.loop-i.invariant c.loop-i-test.true (omega (arith, eight)) c.if-outline-cycle.true); eight = eight }
-
-pub loop-i-preserved : goal.loop-i-preserved
-loop-i-preserved c = search_on c.loop-i.invariant c.loop-i-test.true (omega (arith, c.well_formed.0)) c.if-outline-cycle.false
-
 pub returns : goal.returns
-returns c = record { found = sym (search_ends c.loop-i.invariant c.loop-i-test.false); eight = omega (arith, c.well_formed.0) }
+unfolding is_open
+returns c =
+    let test = λ (o : OpenOutline). eqb o.cycle c.args.cycle in
+    any_from_yields_List test _ _ _ c.any.ensures.ran (YieldsList-from_slice c.args.queue.now c.iter.ensures.rest) (λ x b q k. search (rules, tests))
+    ∙ same_from_clauses (list_any test) (is_open c.args.cycle) (λ (o : OpenOutline) (b : Bool). test o || b) refl (λ _ _. refl) (λ _ _. refl) c.args.queue.now
