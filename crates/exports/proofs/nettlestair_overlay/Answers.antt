@@ -1,5 +1,0 @@
--- The arguments are handed on, so that the promise of the library's function is the one owed.
-use Rattle.exports.proofs.nettlestair_overlay.Goals as goal
-
-pub returns : goal.returns
-returns c = c.overlay-laid.ensures
