@@ -9,15 +9,13 @@ ghost use Rattle.restoring.specs.Judging.{Judgeable, ListsJudged, ImageJudged};
 fn ends_rise(ends: &[u32], total: usize) -> bool
     ensures { result ≡ ends_rise 0 ends.now total }
 {
-    let mut from: usize = 0;
-    let mut k: usize = 0;
-    while k < ends.len() {
-        let end = ends[k] as usize;
+    let mut from = 0;
+    for &end in ends {
+        let end = end as usize;
         if end < from {
             return false;
         }
         from = end;
-        k += 1;
     }
     from == total
 }
@@ -71,6 +69,5 @@ pub(crate) fn has_image(
     if !numbered {
         return false;
     }
-    let listed = retracing::cycles_agree(n, owners, ends, corners, work);
-    listed
+    retracing::cycles_agree(n, owners, ends, corners, work)
 }

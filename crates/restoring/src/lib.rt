@@ -2,6 +2,7 @@
 #![tactic(auto)]
 
 ghost use Rattle.std.specs.Prelude.{◌≡◌, ◌≤◌, length};
+ghost use Rattle.answers.specs.Results.{written};
 ghost use Rattle.sequences.specs.Fill.{fill};
 ghost use Rattle.quadtree.specs.BlockLists.{list_of};
 ghost use Rattle.sequences.specs.Says.{Says};
@@ -10,18 +11,11 @@ ghost use Rattle.given_outlines.specs.Counts.{CountsFit};
 ghost use Rattle.restoring.specs.Restored.{Restorable, Restored};
 ghost use Rattle.restoring.specs.Promise.{lent_short, Restoring};
 
-use answers::Written;
+use answers::Cause;
 use judge::has_image;
 use map_blocks::write_blocks;
 
 mod judge;
-
-// The answer of a refusal.
-fn refused(number: u32) -> Written
-    ensures { result ≡ record { number = number; count = 0 } }
-{
-    Written { number, count: 0 }
-}
 
 // Whether one of the lists for the blocks or the work list is shorter than its need, by their lengths.
 fn one_short(n: u32, codes: usize, levels: usize, colours: usize, work: usize) -> bool
@@ -67,12 +61,12 @@ fn counts_fit(
 }
 
 // The answer where there is no such image: the first `need` entries of the work list are cleared.
-fn no_image(need: usize, work: &mut [u32]) -> Written
+fn no_image(need: usize, work: &mut [u32]) -> Result<u32, Cause>
     requires { need ≤ length work.old }
-    ensures { (result ≡ record { number = 18; count = 0 }) × (work.new ≡ fill work.old 0 need 0) }
+    ensures { (written result ≡ record { number = 18; count = 0 }) × (work.new ≡ fill work.old 0 need 0) }
 {
     filling::fill(work, 0, need, 0);
-    refused(18)
+    Err(Cause::NoImage)
 }
 
 // The block list of the image that has these outlines, if there is one. Clears the work list.
@@ -86,12 +80,12 @@ fn restore(
     levels: &mut [u8],
     colours: &mut [u16],
     work: &mut [u32],
-) -> Written
+) -> Result<u32, Cause>
     requires { Restorable n (outline_lists owners.now ends.now corners.now region_colours.now)
         (list_of codes.old levels.old colours.old) work.old }
     ensures { Restored n (outline_lists owners.now ends.now corners.now region_colours.now)
         (list_of codes.old levels.old colours.old)
-        (list_of codes.new levels.new colours.new) work.new result }
+        (list_of codes.new levels.new colours.new) work.new (written result) }
 {
     let entries = work.len();
     if !has_image(n, owners, ends, corners, region_colours, work) {
@@ -99,7 +93,7 @@ fn restore(
     }
     let count = write_blocks(n, work, region_colours, codes, levels, colours) as u32;
     filling::fill(work, 0, entries, 0);
-    Written { number: 0, count }
+    Ok(count)
 }
 
 // The block list of the image that has these outlines and region colours. The lists are looked at up to the counts.
@@ -116,17 +110,17 @@ pub fn blocks_from_outlines(
     levels: &mut [u8],
     colours: &mut [u16],
     work: &mut [u32],
-) -> Written
+) -> Result<u32, Cause>
     ensures { Restoring n
         (given_as regions cycles corner_count (outline_lists owners.now ends.now corners.now region_colours.now))
         (list_of codes.old levels.old colours.old) work.old
-        (list_of codes.new levels.new colours.new) work.new result }
+        (list_of codes.new levels.new colours.new) work.new (written result) }
 {
     if 8 < n {
-        return refused(1);
+        return Err(Cause::SideTooLarge);
     }
     if one_short(n, codes.len(), levels.len(), colours.len(), work.len()) {
-        return refused(8);
+        return Err(Cause::ListTooShort);
     }
     let need = 8 * location::pixels(n);
     if !counts_fit(

@@ -1,6 +1,5 @@
 -- The check leaves a map of the image's numbers, from which the blocks are written; either way the list is cleared from end to end.
-use mathlib.Core.Path.{◌≡◌, ap, ◌∙◌}
-use Prim.Native.Nat.{◌*◌, ◌^◌}
+use mathlib.Core.Path.{ap, ◌∙◌}
 use native.Mathlib.Omega.{arith}
 use lib.ListN.{length}
 use Rattle.sequences.specs.Fill.{length-fill}
@@ -10,7 +9,7 @@ use Rattle.restoring.proofs.restore.Goals as goal
 
 pub no_image-requires : goal.no_image-requires
 no_image-requires c =
-    let still-long : length c.has_image.new.work ≡ 8 * 4 ^ c.args.n = c.has_image.ensures.long ∙ c.requires.judgeable.room in
+    let still-long = c.has_image.ensures.long ∙ c.requires.judgeable.room in
     omega (arith, still-long, c.requires.judgeable.room)
 
 pub shape_of-work-then-not-has_image : goal.shape_of-work-then-not-has_image
@@ -18,7 +17,7 @@ shape_of-work-then-not-has_image c = ap length c.no_image.ensures.1 ∙ length-f
 
 pub returns-then-not-has_image : goal.returns-then-not-has_image
 returns-then-not-has_image c =
-    let still-long : length c.has_image.new.work ≡ 8 * 4 ^ c.args.n = c.has_image.ensures.long ∙ c.requires.judgeable.room in
+    let still-long = c.has_image.ensures.long ∙ c.requires.judgeable.room in
     none_given_back c.requires (c.has_image.ensures.none c.if-not-has_image.true) c.no_image.ensures.0
     (cleared c.has_image.new.work still-long c.requires.judgeable.room c.no_image.ensures.1)
 
@@ -30,23 +29,14 @@ overflow_cast-count c = omega (arith, c.write_blocks-count.ensures.few, pow4_mon
 
 pub fill-requires : goal.fill-requires
 fill-requires c =
-    let still-long : length c.has_image.new.work ≡ 8 * 4 ^ c.args.n = c.has_image.ensures.long ∙ c.requires.judgeable.room in
+    let still-long = c.has_image.ensures.long ∙ c.requires.judgeable.room in
     omega (arith, still-long, c.requires.judgeable.room)
-
-pub shape_of-codes : goal.shape_of-codes
-shape_of-codes c = c.write_blocks-count.ensures.same.for_codes
-
-pub shape_of-levels : goal.shape_of-levels
-shape_of-levels c = c.write_blocks-count.ensures.same.for_levels
-
-pub shape_of-colours : goal.shape_of-colours
-shape_of-colours c = c.write_blocks-count.ensures.same.for_colours
 
 pub shape_of-work : goal.shape_of-work
 shape_of-work c = ap length c.fill.ensures ∙ length-fill c.has_image.new.work 0 (length c.args.work.now) 0 ∙ c.has_image.ensures.long
 
 pub returns : goal.returns
 returns c =
-    let still-long : length c.has_image.new.work ≡ 8 * 4 ^ c.args.n = c.has_image.ensures.long ∙ c.requires.judgeable.room in
+    let still-long = c.has_image.ensures.long ∙ c.requires.judgeable.room in
     all_given_back c.requires (c.has_image.ensures.found c.if-not-has_image.false) c.write_blocks-count.ensures
     (cleared c.has_image.new.work still-long c.requires.judgeable.room c.fill.ensures)
