@@ -1,16 +1,16 @@
 // One block list laid over another: the merged list whose every pixel has the larger of the two colours.
 #![tactic(auto)]
 
+ghost use Rattle.answers.specs.Results.{written};
 ghost use Rattle.quadtree.specs.BlockLists.{list_of};
 ghost use Rattle.overlaying.specs.Promise.{Overlay};
 
-use answers::Written;
-use cursors::least;
+use answers::Cause;
 use pass::lay_over;
 
 mod pass;
 
-// The first block list laid over the second. The first is judged to its end before the second is looked at.
+// The first block list laid over the second: how many blocks were written. The first is judged to its end before the second is looked at.
 pub fn overlay(
     n: u32,
     first_codes: &[u32],
@@ -22,34 +22,19 @@ pub fn overlay(
     codes: &mut [u32],
     levels: &mut [u8],
     colours: &mut [u16],
-) -> Written
+) -> Result<u32, Cause>
     ensures { Overlay n
         (list_of first_codes.now first_levels.now first_colours.now)
         (list_of second_codes.now second_levels.now second_colours.now)
         (list_of codes.old levels.old colours.old)
-        (list_of codes.new levels.new colours.new) result }
+        (list_of codes.new levels.new colours.new) (written result) }
 {
+    blocks::check(n, first_codes, first_levels, first_colours)?;
+    blocks::check(n, second_codes, second_levels, second_colours)?;
     let whole = location::pixels(n);
-    let room = least(codes.len(), least(levels.len(), colours.len()));
-    let first = blocks::check(n, first_codes, first_levels, first_colours);
-    if first != 0 {
-        return Written {
-            number: first,
-            count: 0,
-        };
-    }
-    let second = blocks::check(n, second_codes, second_levels, second_colours);
-    if second != 0 {
-        return Written {
-            number: second,
-            count: 0,
-        };
-    }
+    let room = codes.len().min(levels.len()).min(colours.len());
     if room < whole {
-        return Written {
-            number: 8,
-            count: 0,
-        };
+        return Err(Cause::ListTooShort);
     }
     let count = lay_over(
         n,
@@ -62,6 +47,6 @@ pub fn overlay(
         codes,
         levels,
         colours,
-    ) as u32;
-    Written { number: 0, count }
+    );
+    Ok(count as u32)
 }

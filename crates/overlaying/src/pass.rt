@@ -1,20 +1,12 @@
 // One pass over two block lists, a cursor in each: from the end of one piece to the nearer end of the two blocks, with the larger of
 // their colours.
-ghost use Rattle.std.specs.Prelude.{◌≡◌, max};
 ghost use Rattle.quadtree.specs.BlockLists.{list_of, image_of};
 ghost use Rattle.appending.specs.Progress.{AllWritten};
 ghost use Rattle.overlaying.specs.Larger.{larger};
 ghost use Rattle.overlaying.specs.Pass.{Overlayable};
 
 use appending::{Pending, append, write_run};
-use cursors::{end_of, least, next_place};
-
-// The larger of two colours.
-fn larger_colour(a: u16, b: u16) -> u16
-    ensures { result ≡ max a b }
-{
-    if a < b { b } else { a }
-}
+use cursors::{end_of, next_place};
 
 // Writes the blocks of the larger colours and returns their number.
 pub(crate) fn lay_over(
@@ -45,13 +37,14 @@ pub(crate) fn lay_over(
         colour: 0,
         count: 0,
     };
+    // The cursors go on by blocks, so their places are counted by hand.
     let mut i: usize = 0;
     let mut j: usize = 0;
     while i < first_codes.len() {
         let ending = end_of(first_codes[i], first_levels[i]);
         let other = end_of(second_codes[j], second_levels[j]);
-        let done = least(ending, other);
-        let colour = larger_colour(first_colours[i], second_colours[j]);
+        let done = ending.min(other);
+        let colour = first_colours[i].max(second_colours[j]);
         let size = done - pending.to;
         pending = append(n, pending, size, colour, codes, levels, colours);
         i = next_place(i, ending, done);

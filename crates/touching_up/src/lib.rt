@@ -2,11 +2,11 @@
 #![tactic(auto)]
 
 ghost use Rattle.std.specs.Prelude.{◌≡◌};
+ghost use Rattle.answers.specs.Results.{written};
 ghost use Rattle.quadtree.specs.BlockLists.{list_of};
 ghost use Rattle.touching_up.specs.Promise.{outside, TouchUp};
 
-use answers::Written;
-use cursors::least;
+use answers::Cause;
 use pass::repaint;
 
 mod pass;
@@ -18,7 +18,7 @@ fn outside(side: usize, x: u32, y: u32) -> bool
     side <= x as usize || side <= y as usize
 }
 
-// The block list of the image whose pixel (x, y) has the colour that is given.
+// The block list of the image whose pixel (x, y) has the colour that is given: how many blocks were written.
 pub fn touch_up(
     n: u32,
     codes: &[u32],
@@ -30,30 +30,20 @@ pub fn touch_up(
     new_codes: &mut [u32],
     new_levels: &mut [u8],
     new_colours: &mut [u16],
-) -> Written
+) -> Result<u32, Cause>
     ensures { TouchUp n
         (list_of codes.now levels.now colours.now) x y colour
         (list_of new_codes.old new_levels.old new_colours.old)
-        (list_of new_codes.new new_levels.new new_colours.new) result }
+        (list_of new_codes.new new_levels.new new_colours.new) (written result) }
 {
+    blocks::check(n, codes, levels, colours)?;
+    if outside(location::side(n), x, y) {
+        return Err(Cause::OutsideImage);
+    }
     let whole = location::pixels(n);
-    let room = least(new_codes.len(), least(new_levels.len(), new_colours.len()));
-    let beyond = outside(location::side(n), x, y);
-    let number = blocks::check(n, codes, levels, colours);
-    if number != 0 {
-        return Written { number, count: 0 };
-    }
-    if beyond {
-        return Written {
-            number: 21,
-            count: 0,
-        };
-    }
+    let room = new_codes.len().min(new_levels.len()).min(new_colours.len());
     if room < whole {
-        return Written {
-            number: 8,
-            count: 0,
-        };
+        return Err(Cause::ListTooShort);
     }
     let pixel = location::code(x as u16, y as u16) as usize;
     let count = repaint(
@@ -66,6 +56,6 @@ pub fn touch_up(
         new_codes,
         new_levels,
         new_colours,
-    ) as u32;
-    Written { number: 0, count }
+    );
+    Ok(count as u32)
 }

@@ -8,7 +8,7 @@ ghost use Rattle.touching_up.specs.Pieces.{piece_end, piece_colour};
 ghost use Rattle.touching_up.specs.Pass.{Repaintable};
 
 use appending::{Pending, append, write_run};
-use cursors::{end_of, least, next_place};
+use cursors::{end_of, next_place};
 
 // Where the piece ends that begins at the code `from`, in a block that ends at `ending`.
 fn piece_end(from: usize, pixel: usize, ending: usize) -> usize
@@ -16,7 +16,7 @@ fn piece_end(from: usize, pixel: usize, ending: usize) -> usize
     ensures { result ≡ piece_end from pixel ending }
 {
     if from < pixel {
-        return least(pixel, ending);
+        return pixel.min(ending);
     }
     if pixel < from {
         return ending;
@@ -56,6 +56,7 @@ pub(crate) fn repaint(
         colour: 0,
         count: 0,
     };
+    // The cursor goes on by blocks, so its place is counted by hand.
     let mut i: usize = 0;
     while i < codes.len() {
         let ending = end_of(codes[i], levels[i]);

@@ -65,16 +65,16 @@ bounds-second_colours-j c =
 
 pub overflow_sub-size : goal.overflow_sub-size
 overflow_sub-size c =
-    let farther : (c.loop-i.pending.to < c.least-done.result) × (c.least-done.result ≤ 4 ^ c.args.n) =
+    let farther : (c.loop-i.pending.to < c.min-done.result) × (c.min-done.result ≤ 4 ^ c.args.n) =
     let on = done_on c.requires c.loop-i.invariant c.loop-i-test.true c.end_of-ending.ensures
-    c.end_of-other.ensures c.least-done.ensures in
+    c.end_of-other.ensures c.min-done.ensures in
     (on.0, on.3) in
     omega (arith, farther, c.loop-i.invariant.progress.writable.ordered)
 
 pub append-pending-requires : goal.append-pending-requires
 append-pending-requires c =
     piece_appendable c.requires c.loop-i.invariant c.loop-i-test.true c.end_of-ending.ensures
-    c.end_of-other.ensures c.least-done.ensures
+    c.end_of-other.ensures c.min-done.ensures
 
 pub next_place-i-requires : goal.next_place-i-requires
 next_place-i-requires c = omega (arith, c.loop-i-test.true, c.well_formed)
@@ -86,21 +86,21 @@ next_place-j-requires c =
 
 pub loop-i-smaller : goal.loop-i-smaller
 loop-i-smaller c =
-    let farther : (c.loop-i.pending.to < c.least-done.result) × (c.least-done.result ≤ 4 ^ c.args.n) =
+    let farther : (c.loop-i.pending.to < c.min-done.result) × (c.min-done.result ≤ 4 ^ c.args.n) =
     let on = done_on c.requires c.loop-i.invariant c.loop-i-test.true c.end_of-ending.ensures
-    c.end_of-other.ensures c.least-done.ensures in
+    c.end_of-other.ensures c.min-done.ensures in
     (on.0, on.3) in
     omega (
       arith,
       farther,
       end_on c.requires c.loop-i.invariant c.loop-i-test.true c.end_of-ending.ensures
-          c.end_of-other.ensures c.least-done.ensures c.append-pending.ensures,
+          c.end_of-other.ensures c.min-done.ensures c.append-pending.ensures,
     )
 
 pub loop-i-preserved : goal.loop-i-preserved
 loop-i-preserved c =
     passing_more c.requires c.loop-i.invariant c.loop-i-test.true c.end_of-ending.ensures
-    c.end_of-other.ensures c.least-done.ensures c.append-pending.ensures c.larger_colour-colour.ensures c.next_place-i.ensures c.next_place-j.ensures
+    c.end_of-other.ensures c.min-done.ensures c.append-pending.ensures c.max-colour.ensures c.next_place-i.ensures c.next_place-j.ensures
 
 pub write_run-requires : goal.write_run-requires
 write_run-requires c = c.loop-i.invariant.progress.writable

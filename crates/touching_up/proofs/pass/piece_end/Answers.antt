@@ -7,7 +7,7 @@ use Rattle.touching_up.proofs.pass.piece_end.Goals as goal
 pub returns-then-from-pixel : goal.returns-then-from-pixel
 returns-then-from-pixel c =
     let a = c.args in
-    c.least.ensures ∙ sym (end_before_pixel a.from a.pixel a.ending c.if-from-pixel.true)
+    c.min.ensures ∙ sym (end_before_pixel a.from a.pixel a.ending c.if-from-pixel.true)
 
 pub returns-then-pixel-from : goal.returns-then-pixel-from
 returns-then-pixel-from c =
