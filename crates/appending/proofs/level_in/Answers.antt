@@ -3,9 +3,6 @@ use native.Mathlib.Omega.{arith}
 use Rattle.appending.specs.Levels.{run_small, level_of_few, level_first, square_small, level_found, level_positive, level_next}
 use Rattle.appending.proofs.level_in.Goals as goal
 
-pub overflow_sub-to : goal.overflow_sub-to
-overflow_sub-to c = omega (arith, c.requires.some)
-
 pub returns-then-to-from-lt4 : goal.returns-then-to-from-lt4
 returns-then-to-from-lt4 c = level_of_few c.requires c.if-to-from-lt4.true
 

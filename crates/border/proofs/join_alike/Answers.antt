@@ -1,9 +1,6 @@
 -- Blocks of one colour are joined; where that is done already, or the colours differ, nothing changes.
-use Rattle.components.specs.Spans.{alike_forest, unlike_forest, done-kept}
+use Rattle.components.specs.Spans.{alike_forest, unlike_forest}
 use Rattle.border.proofs.join_alike.Goals as goal
-
-pub returns-then-b-last : goal.returns-then-b-last
-returns-then-b-last c = done-kept c.args.colours.now c.args.k c.requires.low c.if-b-last.true c.requires.done
 
 pub returns-then-colours-b : goal.returns-then-colours-b
 returns-then-colours-b c =

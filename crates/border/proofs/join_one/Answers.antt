@@ -6,16 +6,6 @@ use Rattle.components.specs.Spans.{none_at_edge, all_inside_lem}
 use Rattle.border.specs.BorderSpans.{one_joinable, one_joined}
 use Rattle.border.proofs.join_one.Goals as goal
 
-pub offset_bounds-entries-at : goal.offset_bounds-entries-at
-offset_bounds-entries-at c =
-    let n = c.requires.named (omega (arith, c.if-z-ne0.true)) in
-    omega (arith, n.inside)
-
-pub bounds-entries-at : goal.bounds-entries-at
-bounds-entries-at c =
-    let n = c.requires.named (omega (arith, c.if-z-ne0.true)) in
-    omega (arith, n.inside)
-
 pub join_alike-requires : goal.join_alike-requires
 join_alike-requires c = one_joinable (c.requires.named (omega (arith, c.if-z-ne0.true)))
 

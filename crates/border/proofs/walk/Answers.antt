@@ -1,13 +1,10 @@
 -- Each block lies where its code says, and there are at most 65536.
-use Rattle.border.specs.Walk.{few_blocks, walk_begins, parents-kept, walk_ends, lies_at, spans, storable, again}
+use Rattle.border.specs.Walk.{few_blocks, walk_begins, lies_at, spans, storable, again}
 use native.Mathlib.Omega.{arith}
 use Rattle.border.proofs.walk.Goals as goal
 
 pub loop-k-init : goal.loop-k-init
 loop-k-init c = walk_begins c.requires
-
-pub overflow_cast-levels : goal.overflow_cast-levels
-overflow_cast-levels c = omega (arith, c.type_inv.levels c.loop-k.k)
 
 pub overflow_cast-k : goal.overflow_cast-k
 overflow_cast-k c = omega (arith, c.loop-k-test.true, few_blocks c.requires.passes)
@@ -29,9 +26,3 @@ pub loop-k-preserved : goal.loop-k-preserved
 loop-k-preserved c =
     let here = lies_at c.requires.passes c.loop-k.invariant c.loop-k-test.true c.side-w.ensures c.column-x.ensures c.row-y.ensures c.side-s.ensures in
     again c.requires.passes c.loop-k.invariant c.loop-k-test.true here c.join_spans.ensures c.store.ensures
-
-pub shape_of-parents : goal.shape_of-parents
-shape_of-parents c = parents-kept c.requires c.loop-k.invariant
-
-pub returns : goal.returns
-returns c = walk_ends c.loop-k.invariant c.loop-k-test.false

@@ -1,16 +1,9 @@
 -- A pixel of another colour ends the run's test; one of the colour leaves it to the others.
-use Rattle.quadtree.specs.Quadtree.{alike}
 use Rattle.uniform.specs.Squares.{run-ended, run_goes_on, run_breaks}
-use mathlib.Core.Path.{◌≡◌, sym, ap, ◌∙◌}
+use mathlib.Core.Path.{sym, ◌∙◌}
 use Prim.Native.Nat.{◌-◌, ◌+◌}
 use native.Mathlib.Omega.{arith}
 use Rattle.uniform.proofs.run_alike.Goals as goal
-
-pub loop-i-init : goal.loop-i-init
-loop-i-init c =
-    let a = c.args in
-    let e : a.from + a.s - a.from ≡ a.s = omega arith in
-    ap (alike a.raster.now a.v a.from) e
 
 pub returns-then-raster-i : goal.returns-then-raster-i
 returns-then-raster-i c =

@@ -13,9 +13,6 @@ returns-then-ra-rb c =
     let f = c.find-ra.ensures in
     under_a f c.find-rb.ensures c.if-ra-rb.true (b_inside f c.find-rb.ensures c.requires.1)
 
-pub shape_of-parents-then-ra-rb : goal.shape_of-parents-then-ra-rb
-shape_of-parents-then-ra-rb c = (returns-then-ra-rb c).long
-
 pub bounds-parents-ra : goal.bounds-parents-ra
 bounds-parents-ra c =
     let f = c.find-ra.ensures in
@@ -25,9 +22,6 @@ pub returns-then-rb-ra : goal.returns-then-rb-ra
 returns-then-rb-ra c =
     let f = c.find-ra.ensures in
     under_b f c.find-rb.ensures c.if-rb-ra.true (a_inside f c.find-rb.ensures c.requires.0)
-
-pub shape_of-parents-then-rb-ra : goal.shape_of-parents-then-rb-ra
-shape_of-parents-then-rb-ra c = (returns-then-rb-ra c).long
 
 pub returns-else-rb-ra : goal.returns-else-rb-ra
 returns-else-rb-ra c = one_root c.find-ra.ensures c.find-rb.ensures (omega arith)

@@ -1,5 +1,5 @@
 -- A parent is numbered before its child.
-use Rattle.unions.specs.RootNumbers.{begin, up_le, again, finish}
+use Rattle.unions.specs.RootNumbers.{begin, up_le, again}
 use Prim.Native.Nat.{◌<◌}
 use native.Mathlib.Omega.{arith}
 use lib.ListN.{length}
@@ -19,11 +19,3 @@ loop-i-preserved c =
     let l = c.loop-i in
     let less : l.i < length c.args.labels.now = omega arith in
     again c.requires.0 l.invariant less c.number_place-next.ensures.0 c.number_place-next.ensures.1
-
-pub shape_of-labels : goal.shape_of-labels
-shape_of-labels c = c.loop-i.invariant.long
-
-pub returns : goal.returns
-returns c =
-    let all = finish c.loop-i.invariant (omega arith) in
-    record { value = all.0; labels_after = all.1 }
