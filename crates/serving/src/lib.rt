@@ -107,14 +107,14 @@ impl Turned {
         ensures { result ≡ turn_answer state turn }
     {
         match turn {
-            Some(served) => {
-                let places = served.places;
+            Some(turn) => {
+                let places = turn.places;
                 Turned {
                     served: true,
-                    count: served.count,
-                    cycle: served.cycle,
+                    count: turn.count,
+                    cycle: turn.cycle,
                     places,
-                    state: served.state,
+                    state: turn.state,
                 }
             }
             None => Turned {
