@@ -63,22 +63,12 @@ fn short(
         (lent labels.now work.now owners.now ends.now corners.now areas.now) }
 {
     let whole = location::pixels(n);
-    if labels.len() < count {
-        return true;
-    }
-    if work.len() < 2 * whole {
-        return true;
-    }
-    if owners.len() < whole {
-        return true;
-    }
-    if ends.len() < whole {
-        return true;
-    }
-    if corners.len() < 4 * whole {
-        return true;
-    }
-    areas.len() < whole
+    labels.len() < count
+        || work.len() < 2 * whole
+        || owners.len() < whole
+        || ends.len() < whole
+        || corners.len() < 4 * whole
+        || areas.len() < whole
 }
 
 // Refuses where n is above 8 or one of the lists is too short: 8 comes last, so the check is asked for a cause before it.

@@ -10,9 +10,6 @@ overflow_add-used c = omega (arith, used_low c.requires c.pixels-whole.ensures)
 pub link-requires : goal.link-requires
 link-requires c = linkable c.requires c.pixels-whole.ensures
 
-pub fill_map-requires : goal.fill_map-requires
-fill_map-requires c = fillable c.requires c.pixels-whole.ensures c.link.ensures
-
 pub list_all-counts-requires : goal.list_all-counts-requires
 list_all-counts-requires c = map_and_links c.requires c.pixels-whole.ensures c.link.ensures c.fill_map.ensures
 
