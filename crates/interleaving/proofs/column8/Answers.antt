@@ -1,5 +1,0 @@
--- x stands where the parted digits say.
-use Rattle.interleaving.proofs.column8.Goals as goal
-
-pub returns : goal.returns
-returns c = c.parted.ensures.0
