@@ -2,14 +2,8 @@
 // parent, unless the side between them lies in that region's first cycle: then both have one parent.
 #![tactic(auto)]
 
-ghost use Rattle.std.specs.Prelude.{◌≡◌, ◌≤◌, length, get_or};
-ghost use Rattle.sequences.specs.Over.{over};
+ghost use Rattle.std.specs.Prelude.{◌≡◌, get_or};
 ghost use Rattle.interleaving.specs.Codes.{code};
-ghost use Rattle.quadtree.specs.Raster.{in_rows};
-ghost use Rattle.quadtree.specs.Blocks.{blocks, paint};
-ghost use Rattle.squares.specs.Rows.{RowsFit};
-ghost use Rattle.squares.specs.Filling.{RowsFilled};
-ghost use Rattle.mapping.specs.Filling.{raised, Fillable};
 ghost use Rattle.cycles.specs.Mapped.{nums_of};
 ghost use Rattle.surrounding.specs.Parents.{parent_of};
 ghost use Rattle.parents.specs.RegionsSettled.{LeastAt, RegionNext, RegionSettled};
@@ -19,42 +13,8 @@ ghost use Rattle.parents.specs.Promise.{RegionsNumbered, ParentsFound};
 use first_cycles::mark_south_sides;
 use steps::MARK_BIT;
 
-// Gives the square of s rows of s entries at the place `at`, in rows of w, the value v. Most blocks of a busy picture are one pixel.
-fn fill_square(map: &mut [u32], w: usize, at: usize, s: usize, v: u32)
-    requires { (w ≤ 256) × RowsFit (length map.old) w at s s }
-    ensures { RowsFilled w at s s v map.old map.new }
-{
-    if s == 1 {
-        map[at] = v;
-        return;
-    }
-    let mut from = at;
-    let mut y: usize = 0;
-    while y < s {
-        filling::fill(map, from, s, v);
-        from += w;
-        y += 1;
-    }
-}
-
-// Fills the map with 1 plus the label of each block. The same as in `mapping`, which keeps one caller so that the compiler inlines it there.
-fn fill_map(n: u32, codes: &[u32], levels: &[u8], labels: &[u32], map: &mut [u32])
-    requires { Fillable n codes.now levels.now labels.now map.old }
-    ensures { map.new
-        ≡ over (in_rows n (raised (paint (blocks codes.now levels.now labels.now)))) map.old }
-{
-    let w = location::side(n);
-    let mut i: usize = 0;
-    while i < codes.len() {
-        let s = location::side(levels[i] as u32);
-        let at = location::place(n, codes[i]);
-        fill_square(map, w, at, s, labels[i] + 1);
-        i += 1;
-    }
-}
-
 // 1 plus the parent of the region whose least pixel is (x, y), 0 where it has none. The work list holds the map and behind it the parents of
-// the regions with smaller numbers, whose first cycles are marked.
+// the regions with smaller numbers, whose first cycles are marked. The answer is what is stored there, so it is a number and no Option.
 fn parent_at(n: u32, work: &[u32], x: u32, y: u32) -> u32
     requires { LeastAt n work.now x y }
     ensures { result ≡ parent_of n (nums_of n work.now) (get_or (nums_of n work.now) (code n x y) 0) }
@@ -100,8 +60,9 @@ fn settle_all(n: u32, count: usize, codes: &[u32], labels: &[u32], work: &mut [u
     requires { AllNext n count codes.now labels.now work.old }
     ensures { AllSettled n count work.old work.new }
 {
-    let mut s: usize = 0;
-    let mut i: usize = 0;
+    let mut s = 0;
+    let mut i = 0;
+    // It ends at the last region, not at the last block, so no range goes over it.
     while s < count {
         s = settle_next(n, codes, labels, i, s, work);
         i += 1;
@@ -121,7 +82,7 @@ pub fn find_parents(
     requires { RegionsNumbered n count codes.now levels.now labels.now work.old }
     ensures { ParentsFound n count codes.now levels.now labels.now work.old work.new }
 {
-    fill_map(n, codes, levels, labels, work);
+    mapping::fill_map(n, codes, levels, labels, work);
     settle_all(n, count, codes, labels, work);
     filling::fill(work, 0, count, 0);
 }

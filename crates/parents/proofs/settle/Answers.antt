@@ -20,6 +20,3 @@ mark_south_sides-requires c = cycle-starts c.requires c.column-x.ensures c.row-y
 
 pub returns : goal.returns
 returns c = region_settled c.requires c.column-x.ensures c.row-y.ensures c.pixels.ensures c.parent_at.ensures c.mark_south_sides.ensures
-
-pub shape_of-work : goal.shape_of-work
-shape_of-work c = (returns c).long

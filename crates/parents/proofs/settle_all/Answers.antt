@@ -1,3 +1,4 @@
+-- Block after block, as long as a region is left.
 use Prim.Native.Nat.{◌<◌}
 use native.Mathlib.Omega.{arith}
 use lib.ListN.{length}
@@ -21,9 +22,6 @@ loop-s-smaller c = omega (arith, block_left c.requires c.loop-s.invariant c.loop
 
 pub loop-s-preserved : goal.loop-s-preserved
 loop-s-preserved c = again c.requires c.loop-s.invariant c.loop-s-test.true c.settle_next-s.ensures
-
-pub shape_of-work : goal.shape_of-work
-shape_of-work c = c.loop-s.invariant.long
 
 pub returns : goal.returns
 returns c = finish c.requires c.loop-s.invariant c.loop-s-test.false

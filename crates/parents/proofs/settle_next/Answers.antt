@@ -8,9 +8,6 @@ use Rattle.parents.proofs.settle_next.Goals as goal
 pub bounds-labels-i : goal.bounds-labels-i
 bounds-labels-i c = omega (arith, c.requires.place, c.requires.blocks.enough)
 
-pub overflow_cast-labels : goal.overflow_cast-labels
-overflow_cast-labels c = omega (arith, c.shared_slice_known-3-1.given c.args.i)
-
 pub returns-then-labels-i : goal.returns-then-labels-i
 returns-then-labels-i c = block_skipped c.requires c.if-labels-i.true
 
