@@ -49,32 +49,34 @@ fn levels_alike(levels: &[u8], i: usize) -> bool
     requires { i + 3 < length levels.now }
     ensures { result ≡ alike_from levels.now i }
 {
-    let first = levels[i] as u32;
-    let second = levels[i + 1] as u32;
-    let third = levels[i + 2] as u32;
-    let fourth = levels[i + 3] as u32;
+    let first = u32::from(levels[i]);
+    let second = u32::from(levels[i + 1]);
+    let third = u32::from(levels[i + 2]);
+    let fourth = u32::from(levels[i + 3]);
     first + 256 * second + 65536 * third + 16777216 * fourth == 16843009 * first
 }
 
 // Whether the four colours from i on are equal, asked in the same way: the last number has the digit 1 four times to the base 65,536.
+// One function for both bases would be no shorter: each base has a type, a word and numbers of its own.
 fn colours_alike(colours: &[u16], i: usize) -> bool
     requires { i + 3 < length colours.now }
     ensures { result ≡ alike_from colours.now i }
 {
-    let first = colours[i] as u64;
-    let second = colours[i + 1] as u64;
-    let third = colours[i + 2] as u64;
-    let fourth = colours[i + 3] as u64;
+    let first = u64::from(colours[i]);
+    let second = u64::from(colours[i + 1]);
+    let third = u64::from(colours[i + 2]);
+    let fourth = u64::from(colours[i + 3]);
     first + 65536 * second + 4294967296 * third + 281474976710656 * fourth
         == 281479271743489 * first
 }
 
-// How many blocks from i on begin no four siblings of one colour, as far as one look tells; 0 where such four begin at i.
+// How many blocks from i on begin no four siblings of one colour, as far as one look tells; 0 where such four begin at i. It is
+// `stride_at`, of which the theorems say 0 and not none.
 fn stride(n: u32, codes: &[u32], levels: &[u8], colours: &[u16], i: usize) -> usize
     requires { (n ≤ 8) × EqualLengths codes.now levels.now colours.now × (i + 3 < length codes.now) }
     ensures { result ≡ stride_at n codes.now levels.now colours.now i }
 {
-    let level = levels[i] as u32;
+    let level = u32::from(levels[i]);
     if n <= level {
         return 1;
     }
@@ -95,6 +97,7 @@ pub(crate) fn siblings(n: u32, codes: &[u32], levels: &[u8], colours: &[u16]) ->
     requires { Covered n codes.now levels.now colours.now }
     ensures { result ≡ siblings n (blocks codes.now levels.now colours.now) }
 {
+    // The step is one block or four, so the place is counted by hand.
     let mut i: usize = 0;
     while i + 3 < codes.len() {
         let clear = stride(n, codes, levels, colours, i);

@@ -4,19 +4,16 @@ use native.Mathlib.Omega.{arith}
 use mathlib.Core.Path.{sym, ◌∙◌}
 use Rattle.blocks.proofs.covering.stride.Goals as goal
 
-pub overflow_cast-level : goal.overflow_cast-level
-overflow_cast-level c = omega (arith, c.shared_slice_known-4-1.given c.args.i)
-
 pub returns-then-n-level : goal.returns-then-n-level
 returns-then-n-level c =
     let a = c.args in
-    not_below_n a.n a.codes.now a.levels.now a.colours.now a.i c.if-n-level.true
+    not_below_n a.n a.codes.now a.levels.now a.colours.now a.i (omega arith)
 
 pub returns-then-alignment-level : goal.returns-then-alignment-level
 returns-then-alignment-level c =
     let a = c.args in
     not_first_child a.n a.codes.now a.levels.now a.colours.now a.i
-    (omega (arith, c.if-n-level.false, c.requires.0)) (omega (arith, c.alignment.ensures, c.if-alignment-level.true))
+    (omega arith) (omega arith)
 
 pub returns-then-not-levels_alike : goal.returns-then-not-levels_alike
 returns-then-not-levels_alike c =
@@ -27,12 +24,12 @@ pub returns-then-colours_alike : goal.returns-then-colours_alike
 returns-then-colours_alike c =
     let a = c.args in
     one_colour_lem a.n a.codes.now a.levels.now a.colours.now a.i
-    c.if-n-level.false (omega (arith, c.alignment.ensures, c.if-alignment-level.false))
+    (omega arith) (omega arith)
     (sym c.levels_alike.ensures ∙ c.if-not-levels_alike.false) (sym c.colours_alike.ensures ∙ c.if-colours_alike.true)
 
 pub returns : goal.returns
 returns c =
     let a = c.args in
     more-colours a.n a.codes.now a.levels.now a.colours.now a.i
-    c.if-n-level.false (omega (arith, c.alignment.ensures, c.if-alignment-level.false))
+    (omega arith) (omega arith)
     (sym c.levels_alike.ensures ∙ c.if-not-levels_alike.false) (sym c.colours_alike.ensures ∙ c.if-colours_alike.false)
