@@ -48,6 +48,7 @@ pub(crate) fn shape_of(width: u32, height: u32, maxval: u32, length: usize) -> R
     };
     let count = (width as usize) * (height as usize);
     let wide = 255 < maxval;
+    // `||` would be no plainer, and would add a branch.
     let outside = (maxval < 1) | (65535 < maxval);
     if outside {
         return Err(Cause::MaxvalOutOfRange);

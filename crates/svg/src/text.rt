@@ -5,7 +5,8 @@ ghost use Rattle.answers.specs.Put.{Put};
 ghost use Rattle.decimals.specs.Decimal.{decimal};
 ghost use Rattle.svg.specs.Svg.{word, path_data};
 
-// A letter and the digits of v.
+// A letter and the digits of v. They are put by hand: `write!` promises its bytes only on an Ok, and no clause of it says that a slice
+// with room gives one, so that `Put` would stay open.
 fn put_number(text: &mut [u8], letter: u8, v: u32) -> usize
     requires { (4 ≤ length text.old) × (v < 1000) }
     ensures { Put (letter ∷ decimal v) text.old text.new result }
