@@ -1,13 +1,28 @@
 // From a raster to the lines of its outlines, with all lists of the way in local arrays.
 #![tactic(auto)]
 
+ghost use Rattle.std.specs.Prelude.{◌≡◌};
 ghost use Rattle.quadtree.specs.Blocks.{blocks, paint};
 ghost use Rattle.quadtree.specs.Raster.{in_code_order};
 ghost use Rattle.answers.specs.Put.{Put};
+ghost use Rattle.tracing.specs.Results.{traced};
 ghost use Rattle.drawing.specs.Outlines.{image_text};
 ghost use Rattle.drawing.specs.Picturing.{RasterFits, Traceable};
 
-// The lines of an accepted block list.
+use answers::Cause;
+use tracing::Listed;
+
+// How many cycles were listed, none on a refusal.
+fn cycles_of(outcome: Result<Listed, Cause>) -> u32
+    ensures { result ≡ (traced outcome).cycles }
+{
+    match outcome {
+        Ok(listed) => listed.cycles,
+        Err(_) => 0,
+    }
+}
+
+// The lines of an accepted block list, which the tracing does not refuse.
 fn write_outlines(n: u32, codes: &[u32], levels: &[u8], colours: &[u16], text: &mut [u8]) -> usize
     requires { Traceable n codes.now levels.now colours.now text.old }
     ensures { Put (image_text n (paint (blocks codes.now levels.now colours.now)))
@@ -31,10 +46,11 @@ fn write_outlines(n: u32, codes: &[u32], levels: &[u8], colours: &[u16], text: &
         &mut corners,
         &mut areas,
     );
-    lines::write(&owners, &ends, &corners, traced.cycles, text)
+    let cycles = cycles_of(traced);
+    lines::write(&owners, &ends, &corners, cycles, text)
 }
 
-// The lines of a raster: it is merged to blocks, and their outlines are written.
+// The lines of a raster: it is merged to blocks, which the lists always take, and their outlines are written.
 pub fn write_picture(n: u32, raster: &[u16], text: &mut [u8]) -> usize
     requires { RasterFits n raster.now text.old }
     ensures { Put (image_text n (in_code_order n raster.now)) text.old text.new result }
@@ -43,7 +59,7 @@ pub fn write_picture(n: u32, raster: &[u16], text: &mut [u8]) -> usize
     let mut levels = [0u8; 4096];
     let mut colours = [0u16; 4096];
     let merged = merging::from_raster(n, raster, &mut codes, &mut levels, &mut colours);
-    let count = merged.count as usize;
+    let count = merged.unwrap_or(0) as usize;
     write_outlines(
         n,
         &codes[..count],

@@ -5,13 +5,13 @@ ghost use Rattle.drawing.specs.Picturing.{RasterFits};
 ghost use Rattle.printing.specs.Printed.{image_of};
 
 // Row by row, north row first; or in block order, which is rising location code.
-#[derive(Clone, Copy)]
+#[derive(Clone, Copy, Debug, PartialEq, Eq)]
 pub enum Order {
     Rows,
     BlockOrder,
 }
 
-// The lines of a picture's samples, which are put into rows first where they stand in block order.
+// The lines of a picture's samples, which are put into rows first where they stand in block order; the local raster always takes them.
 pub(crate) fn draw(n: u32, samples: &[u16], order: Order, text: &mut [u8]) -> usize
     requires { RasterFits n samples.now text.old }
     ensures { Put (image_text n (image_of order n samples.now)) text.old text.new result }
@@ -21,7 +21,7 @@ pub(crate) fn draw(n: u32, samples: &[u16], order: Order, text: &mut [u8]) -> us
         Order::BlockOrder => {
             let mut raster = [0u16; 4096];
             let done = rearranging::from_block_order(n, samples, &mut raster);
-            let count = done.count as usize;
+            let count = done.unwrap_or(0) as usize;
             drawing::write_picture(n, &raster[..count], text)
         }
     }

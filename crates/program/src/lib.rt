@@ -9,7 +9,8 @@ ghost use Rattle.program.specs.Ran.{Room, Ran};
 use printing::Order;
 use std::io::{Read, Write};
 
-// Reads until the buffer is full, the input ends or a read fails, and answers how many bytes stand at the front of the buffer.
+// Reads until the buffer is full, the input ends or a read fails, and answers how many bytes stand at the front of the buffer. The step
+// is what each read gave, so the place is counted by hand.
 fn read_full(rt: &HostRuntime, buffer: &mut [u8]) -> usize
     ensures { result ≤ length buffer.new }
 {
@@ -31,8 +32,10 @@ fn answer(buffer: &[u8], read: usize, order: Order, text: &mut [u8]) -> usize
     ensures put { Put (whole_text order (take read buffer.now)) text.old text.new result }
     ensures within { result ≤ length text.new }
 {
-    let printed = printing::print(&buffer[..read], order, text);
-    printed.count as usize
+    match printing::print(&buffer[..read], order, text) {
+        Ok(count) => count as usize,
+        Err(refused) => refused.count as usize,
+    }
 }
 
 // Reads a file whose samples stand in this order, and prints its text. More bytes than the limit are asked for, so that a longer input is

@@ -1,11 +1,12 @@
 -- A file in block order with its samples put into rows.
-use Rattle.std.specs.Prelude.{true, false, List, ◌++◌, ℕ, ◌+◌, ◌-◌, ◌*◌, ◌/◌, ◌%◌, ◌^◌, ltb, length, take, get_or}
+use Rattle.std.specs.Prelude.{Result, Ok, Err, true, false, List, ◌++◌, ℕ, ◌+◌, ◌-◌, ◌*◌, ◌/◌, ◌%◌, ◌^◌, ltb, length, take, get_or}
 use Rattle.sequences.specs.Ranges.{tabulate}
 use Rattle.headers.specs.Parser.{Parsed, refused, got, next}
 use Rattle.headers.specs.Header.{Fields, header_over, header}
 use Rattle.headers.specs.Space.{spaces}
 use Rattle.pgm.specs.Samples.{sample_bytes}
 use Rattle.pgm.specs.Shaped.{shaped}
+use Rattle.answers.specs.declared.cause.Cause.{Cause}
 use Rattle.pgm.specs.declared.shape.Shape.{Shape}
 use Rattle.rearranging.specs.Ways.{code_at}
 use Rattle.printing.specs.Printed.{input_limit}
@@ -22,10 +23,10 @@ unfolding tabulate byte_in_rows
 bytes_in_rows n size rest = tabulate (size * 4 ^ n) (byte_in_rows n size rest)
 
 -- The file with its samples put into rows, by the shape of the picture that its header leaves: refused with 11 to 13 it stays as it stands.
-unfoldable pub in_rows_by_shape : List ℕ → List ℕ → Shape → List ℕ
+unfoldable pub in_rows_by_shape : List ℕ → List ℕ → Result Shape Cause → List ℕ
 unfolding bytes_in_rows sample_bytes
-in_rows_by_shape bytes rest (Shape.Refused k) = bytes
-in_rows_by_shape bytes rest (Shape.Samples n count wide) = take (length bytes - length rest) bytes ++ bytes_in_rows n (sample_bytes wide) rest
+in_rows_by_shape bytes rest (Err cause) = bytes
+in_rows_by_shape bytes rest (Ok s) = take (length bytes - length rest) bytes ++ bytes_in_rows s.n (sample_bytes s.wide) rest
 
 -- By its header: refused with 10 it stays as it stands.
 unfoldable pub in_rows_by_header : List ℕ → Parsed Fields → List ℕ

@@ -1,5 +1,5 @@
 -- Putting the samples of a file into rows keeps its number, and rearranges the raster of an accepted picture.
-use Rattle.std.specs.Prelude.{◌≡◌, Bool, ℕ, ◌+◌, ◌-◌, ◌*◌, ◌/◌, ◌%◌, ◌^◌, ◌≤◌, ◌<◌, length, take, get_or}
+use Rattle.std.specs.Prelude.{Result, Ok, Err, ◌≡◌, Bool, ℕ, ◌+◌, ◌-◌, ◌*◌, ◌/◌, ◌%◌, ◌^◌, ◌≤◌, ◌<◌, length, take, get_or}
 use Rattle.std.proofs.Math.Path.{refl, sym, ap}
 use Rattle.std.proofs.Common.{ap₂, ◌∙◌, true≢false, arith, length-append, length-take, lt-ltb, le-ltb}
 use Rattle.std.proofs.Math.Bool.{true, false}
@@ -17,6 +17,7 @@ use Rattle.pgm.specs.Shaped.{shaped}
 use Rattle.pgm.specs.ShapeLaws.{refused_11_to_13}
 use Rattle.pgm.specs.Scans.{shape_scan, facts, above_scan, held-scan}
 use Rattle.pgm.specs.Accepted.{file_scan, bad-scan}
+use Rattle.answers.specs.declared.cause.Cause.{Cause}
 use Rattle.pgm.specs.declared.shape.Shape.{Shape}
 use Rattle.rearranging.specs.Ways.{code_at, code_at_inside}
 use Rattle.printing.specs.Printed.{input_limit}
@@ -97,7 +98,7 @@ unfolding nothing
 stands some e = record { refused_stands = λ a b. refl; length_same = refl; number_same = refl; accepted_same = λ z. absurd (omega (arith, z, ap (λ (s : Scan). s.number) e)) }
 
 -- A file of a header and as many bytes as its samples take.
-module _ (bytes rest : List ℕ) (f : Fields) (x : File bytes f rest) {n count : ℕ} {wide : Bool} (e : shaped f (length rest) ≡ Shape.Samples n count wide) where
+module _ (bytes rest : List ℕ) (f : Fields) (x : File bytes f rest) {n count : ℕ} {wide : Bool} (e : shaped f (length rest) ≡ Ok (record { n = n; count = count; wide = wide })) where
   other : List ℕ
   other = bytes_in_rows n (sample_bytes wide) rest
 
@@ -106,7 +107,7 @@ module _ (bytes rest : List ℕ) (f : Fields) (x : File bytes f rest) {n count :
   same_size =
       length_bytes n (sample_bytes wide) rest ∙ sym ((facts f rest e).full ∙ ap (λ (k : ℕ). sample_bytes wide * k) (facts f rest e).square_is)
 
-  same_shape : shaped f (length other) ≡ Shape.Samples n count wide
+  same_shape : shaped f (length other) ≡ Ok (record { n = n; count = count; wide = wide })
   same_shape = ap (shaped f) same_size ∙ e
 
   values : List ℕ
@@ -161,10 +162,10 @@ module _ (bytes rest : List ℕ) (f : Fields) (x : File bytes f rest) {n count :
 
 -- Any file within the limit.
 module _ (bytes : List ℕ) where
-  by_shape : (rest : List ℕ) (f : Fields) → File bytes f rest → (s : Shape) → shaped f (length rest) ≡ s → PutIntoRows bytes (in_rows_by_shape bytes rest s)
+  by_shape : (rest : List ℕ) (f : Fields) → File bytes f rest → (s : Result Shape Cause) → shaped f (length rest) ≡ s → PutIntoRows bytes (in_rows_by_shape bytes rest s)
   unfolding in_rows_by_shape other
-  by_shape rest f x (Shape.Refused k) e = stands (omega (arith, (refused_11_to_13 f (length rest) e).0)) (file_scan bytes rest f x ∙ shape_scan f rest e)
-  by_shape rest f x (Shape.Samples n count wide) e = rearranged_file bytes rest f x e
+  by_shape rest f x (Err cause) e = stands (omega (arith, (refused_11_to_13 f (length rest) e).0)) (file_scan bytes rest f x ∙ shape_scan f rest e)
+  by_shape rest f x (Ok s) e = rearranged_file bytes rest f x e
 
   by_header : (p : Parsed Fields) → header bytes ≡ p → PutIntoRows bytes (in_rows_by_header bytes p)
   unfolding in_rows_by_header

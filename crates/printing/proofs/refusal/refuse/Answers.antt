@@ -1,41 +1,28 @@
--- Eleven stores one after the other are the line laid over the front of the text.
-use native.Mathlib.Omega.{arith}
-use lib.ListN.{length-set}
+-- The word and three stores one after the other are the line laid over the front of the text.
+use Rattle.std.proofs.Common.{◌≡◌, refl, ℕ, List, [], ◌∷◌, ◌++◌, ◌≤◌, length, drop, arith}
+use Rattle.std.proofs.Math.ListN.{set}
+use Rattle.std.proofs.lemmas.List.Edits.{sets}
 use Rattle.printing.specs.Printable.{refused_silently, refused_in_line}
 use Rattle.printing.proofs.refusal.refuse.Goals as goal
+
+line_put : (text : List ℕ) (tens ones : ℕ) → 11 ≤ length text
+    → set (set (set ((114 ∷ 101 ∷ 102 ∷ 117 ∷ 115 ∷ 101 ∷ 100 ∷ 32 ∷ []) ++ drop 8 text) 8 tens) 9 ones) 10 10 ≡ sets text 0 (114 ∷ 101 ∷ 102 ∷ 117 ∷ 115 ∷ 101 ∷ 100 ∷ 32 ∷ tens ∷ ones ∷ 10 ∷ [])
+line_put [] tens ones h = absurd (omega arith)
+line_put (x0 ∷ []) tens ones h = absurd (omega arith)
+line_put (x0 ∷ x1 ∷ []) tens ones h = absurd (omega arith)
+line_put (x0 ∷ x1 ∷ x2 ∷ []) tens ones h = absurd (omega arith)
+line_put (x0 ∷ x1 ∷ x2 ∷ x3 ∷ []) tens ones h = absurd (omega arith)
+line_put (x0 ∷ x1 ∷ x2 ∷ x3 ∷ x4 ∷ []) tens ones h = absurd (omega arith)
+line_put (x0 ∷ x1 ∷ x2 ∷ x3 ∷ x4 ∷ x5 ∷ []) tens ones h = absurd (omega arith)
+line_put (x0 ∷ x1 ∷ x2 ∷ x3 ∷ x4 ∷ x5 ∷ x6 ∷ []) tens ones h = absurd (omega arith)
+line_put (x0 ∷ x1 ∷ x2 ∷ x3 ∷ x4 ∷ x5 ∷ x6 ∷ x7 ∷ []) tens ones h = absurd (omega arith)
+line_put (x0 ∷ x1 ∷ x2 ∷ x3 ∷ x4 ∷ x5 ∷ x6 ∷ x7 ∷ x8 ∷ []) tens ones h = absurd (omega arith)
+line_put (x0 ∷ x1 ∷ x2 ∷ x3 ∷ x4 ∷ x5 ∷ x6 ∷ x7 ∷ x8 ∷ x9 ∷ []) tens ones h = absurd (omega arith)
+line_put (x0 ∷ x1 ∷ x2 ∷ x3 ∷ x4 ∷ x5 ∷ x6 ∷ x7 ∷ x8 ∷ x9 ∷ x10 ∷ text) tens ones h = refl
 
 pub returns-then-text-lt11 : goal.returns-then-text-lt11
 returns-then-text-lt11 c = refused_silently c.requires (omega (arith, c.if-text-lt11.true))
 
-pub bounds-text-1 : goal.bounds-text-1
-bounds-text-1 c = simp length-set (omega arith)
-
-pub bounds-text-2 : goal.bounds-text-2
-bounds-text-2 c = simp length-set (omega arith)
-
-pub bounds-text-3 : goal.bounds-text-3
-bounds-text-3 c = simp length-set (omega arith)
-
-pub bounds-text-4 : goal.bounds-text-4
-bounds-text-4 c = simp length-set (omega arith)
-
-pub bounds-text-5 : goal.bounds-text-5
-bounds-text-5 c = simp length-set (omega arith)
-
-pub bounds-text-6 : goal.bounds-text-6
-bounds-text-6 c = simp length-set (omega arith)
-
-pub bounds-text-7 : goal.bounds-text-7
-bounds-text-7 c = simp length-set (omega arith)
-
-pub bounds-text-8 : goal.bounds-text-8
-bounds-text-8 c = simp length-set (omega arith)
-
-pub bounds-text-9 : goal.bounds-text-9
-bounds-text-9 c = simp length-set (omega arith)
-
-pub bounds-text-10 : goal.bounds-text-10
-bounds-text-10 c = simp length-set (omega arith)
-
 pub returns : goal.returns
-returns c = refused_in_line c.requires c.if-text-lt11.false
+returns c =
+    rw (c.copy_from_slice.ensures.after, c.from-number.ensures, line_put _ _ _ c.if-text-lt11.false) (refused_in_line c.requires c.if-text-lt11.false)
