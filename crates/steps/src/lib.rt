@@ -29,6 +29,7 @@ pub struct Edge {
 
 impl Edge {
     // The number of the tail.
+    #[tactic(auto, unfolding(lattice::specs::Directions::point))]
     pub fn tail(self) -> u32
         requires { (self.x < 512) × (self.y < 512) }
         ensures { result ≡ point self.x self.y }
@@ -71,6 +72,7 @@ fn look(map: &[u32], side: u32, x: u32, y: u32) -> u32
 }
 
 // The column in the map with a margin of the pixel of the digit d around a point of the column x.
+#[tactic(auto, unfolding(crate::specs::Look::column_at))]
 pub fn column_at(x: u32, d: u8) -> u32
     requires { x < 512 }
     ensures { result ≡ column_at x d }
@@ -79,6 +81,7 @@ pub fn column_at(x: u32, d: u8) -> u32
 }
 
 // The row of the pixel of the digit d around a point of the row y.
+#[tactic(auto, unfolding(crate::specs::Look::row_at))]
 pub fn row_at(y: u32, d: u8) -> u32
     requires { y < 512 }
     ensures { result ≡ row_at y d }
@@ -120,6 +123,7 @@ pub fn next_digit(map: &[u32], side: u32, r: u32, x: u32, y: u32, d: u8) -> u8
 }
 
 // The column of the point one unit on with the digit d from a point of the column x.
+#[tactic(auto, unfolding(crate::specs::Rule::move_x))]
 pub fn next_x(x: u32, d: u8) -> u32
     requires { (d ≡ 2 → 0 < x) × (x < 512) }
     ensures { result ≡ move_x x d }
@@ -132,6 +136,7 @@ pub fn next_x(x: u32, d: u8) -> u32
 }
 
 // The row of the point one unit on with the digit d from a point of the row y.
+#[tactic(auto, unfolding(crate::specs::Rule::move_y))]
 pub fn next_y(y: u32, d: u8) -> u32
     requires { (d ≡ 1 → 0 < y) × (y < 512) }
     ensures { result ≡ move_y y d }

@@ -1,8 +1,8 @@
+-- Each goal is a fact of the cycle k.
 use Rattle.std.specs.Prelude.{not}
 use Rattle.std.proofs.Math.Path.{ap}
-use Prim.Native.Nat.{◌≤◌, ◌<◌}
 use native.Mathlib.Omega.{arith}
-use lib.ListN.{length, get_or}
+use lib.ListN.{get_or}
 use Rattle.lattice.specs.Directions.{x_of, y_of}
 use Rattle.retracing.specs.Ranks.{rank_low}
 use Rattle.retracing.specs.Checking.{begin, finish, checkable, end_not_before, end_inside, owner-inside, long_then, not_a_cycle}
@@ -17,24 +17,18 @@ bounds-owners-k c = owner-inside c.requires c.loop-k.invariant c.loop-k-test.tru
 
 pub offset_bounds-corners-begin : goal.offset_bounds-corners-begin
 offset_bounds-corners-begin c =
-    let part-begins : let l = c.loop-k in l.begin ≤ get_or c.args.ends.now l.k 0 = end_not_before c.requires c.loop-k.invariant c.loop-k-test.true in
-    let part-ends : let a = c.args in get_or a.ends.now c.loop-k.k 0 ≤ length a.corners.now = end_inside c.requires c.loop-k.invariant c.loop-k-test.true in
-    omega (arith, part-begins, part-ends)
+    let w = c.loop-k.invariant in
+    let h = c.loop-k-test.true in
+    omega (arith, end_not_before c.requires w h, end_inside c.requires w h)
 
 pub slice_bounds-cycle_agrees-count : goal.slice_bounds-cycle_agrees-count
-slice_bounds-cycle_agrees-count c =
-    let part-begins : let l = c.loop-k in l.begin ≤ get_or c.args.ends.now l.k 0 = end_not_before c.requires c.loop-k.invariant c.loop-k-test.true in
-    part-begins
+slice_bounds-cycle_agrees-count c = end_not_before c.requires c.loop-k.invariant c.loop-k-test.true
 
 pub slice_bounds-cycle_agrees-start : goal.slice_bounds-cycle_agrees-start
-slice_bounds-cycle_agrees-start c =
-    let part-begins : let l = c.loop-k in l.begin ≤ get_or c.args.ends.now l.k 0 = end_not_before c.requires c.loop-k.invariant c.loop-k-test.true in
-    part-begins
+slice_bounds-cycle_agrees-start c = end_not_before c.requires c.loop-k.invariant c.loop-k-test.true
 
 pub slice_bounds-cycle_agrees-end : goal.slice_bounds-cycle_agrees-end
-slice_bounds-cycle_agrees-end c =
-    let part-ends : let a = c.args in get_or a.ends.now c.loop-k.k 0 ≤ length a.corners.now = end_inside c.requires c.loop-k.invariant c.loop-k-test.true in
-    part-ends
+slice_bounds-cycle_agrees-end c = end_inside c.requires c.loop-k.invariant c.loop-k-test.true
 
 pub cycle_agrees-requires : goal.cycle_agrees-requires
 cycle_agrees-requires c = checkable c.requires c.loop-k.invariant
@@ -47,15 +41,10 @@ returns-then-not-cycle_agrees c = not_a_cycle c.requires c.loop-k.invariant c.lo
 
 pub offset_bounds-corners-begin-in-loop-k : goal.offset_bounds-corners-begin-in-loop-k
 offset_bounds-corners-begin-in-loop-k c =
-    let corner-there : c.loop-k.begin < length c.args.corners.now =
-    corner-inside c.requires c.loop-k.invariant c.loop-k-test.true c.cycle_agrees.ensures (ap not c.if-not-cycle_agrees.false) in
-    omega (arith, corner-there)
+    omega (arith, corner-inside c.requires c.loop-k.invariant c.loop-k-test.true c.cycle_agrees.ensures (ap not c.if-not-cycle_agrees.false))
 
 pub bounds-corners-begin : goal.bounds-corners-begin
-bounds-corners-begin c =
-    let corner-there : c.loop-k.begin < length c.args.corners.now =
-    corner-inside c.requires c.loop-k.invariant c.loop-k-test.true c.cycle_agrees.ensures (ap not c.if-not-cycle_agrees.false) in
-    corner-there
+bounds-corners-begin c = corner-inside c.requires c.loop-k.invariant c.loop-k-test.true c.cycle_agrees.ensures (ap not c.if-not-cycle_agrees.false)
 
 pub rank-r-requires : goal.rank-r-requires
 rank-r-requires c = (
