@@ -56,7 +56,7 @@ fn places(text: &str) -> Vec<Place> {
     places
 }
 
-/// A function of a source: its name, and its lines from the one that names it to the one before the next function.
+/// A function or method of a source: its name, and its lines from the attributes above it to the one before the next function.
 struct Function {
     name: String,
     first: usize,
@@ -64,7 +64,7 @@ struct Function {
 }
 
 fn name_of_function(line: &str) -> Option<String> {
-    let (head, rest) = line.split_once("fn ")?;
+    let (head, rest) = line.trim_start().split_once("fn ")?;
     let before = ["", "pub ", "pub(crate) ", "pub extern \"C\" "];
     before.contains(&head).then(|| rest.chars().take_while(|c| c.is_alphanumeric() || *c == '_').collect())
 }
@@ -72,8 +72,10 @@ fn name_of_function(line: &str) -> Option<String> {
 /// The function of a source that a text stands in, if it stands in one.
 fn function_at(source: &str, old: &str) -> Option<Function> {
     let line = source[..source.find(old)?].matches('\n').count() + 1;
+    let lines: Vec<&str> = source.lines().collect();
+    let attributes = |i: usize| lines[..i].iter().rev().take_while(|l| l.trim_start().starts_with("#[")).count();
     let heads: Vec<(usize, String)> =
-        source.lines().enumerate().filter_map(|(i, l)| name_of_function(l).map(|name| (i + 1, name))).collect();
+        (0..lines.len()).filter_map(|i| name_of_function(lines[i]).map(|name| (i + 1 - attributes(i), name))).collect();
     let at = heads.iter().rposition(|(first, _)| *first <= line)?;
     let last = heads.get(at + 1).map_or(usize::MAX, |(first, _)| first - 1);
     Some(Function { name: heads[at].1.clone(), first: heads[at].0, last })
@@ -99,7 +101,10 @@ fn is_own(said: &str, place: &Place, source: &str) -> bool {
         "lib.rt" | "main.rt" => String::new(),
         _ => file.replace(".rt", "/"),
     };
-    let in_proof = error && said.starts_with(&format!("./proofs/{module}{}/", function.name));
+    // The folder of a method is in that of its type.
+    let folder = said.split(':').next().and_then(|path| path.rsplit_once('/')).map_or("", |(folder, _)| folder);
+    let of_module = folder.strip_prefix(&format!("./proofs/{module}"));
+    let in_proof = error && of_module.is_some_and(|rest| rest.rsplit('/').next() == Some(function.name.as_str()));
     let unproved = said.starts_with("note: ") && said.contains("it is not proved that");
     let at_line = line_in(said, &place.file).is_some_and(|line| function.first <= line && line <= function.last);
     in_proof || unproved && at_line
@@ -210,6 +215,20 @@ fn what_shows_nothing_is_seen() {
     assert!(!faulty(&refused("./proofs/m/one/Answers.antt:3:1: error: `returns`: no"), &place("src/m.rt", "a")));
     assert!(!faulty(&refused("./specs/Roots.antt:3:1: error: `root`: no"), &definition));
     assert!(!faulty(rejected, &definition));
+    // a method, and a function under an attribute
+    let methods =
+        "impl From<A> for B {\n    fn from(a: A) -> B {\n        b\n    }\n}\n\n#[inline]\nfn three() {\n    c\n}\n";
+    let of_methods = |said: &str, old: &str| fault(&refused(said), &place("src/lib.rt", old), |_| methods.to_string());
+    assert!(of_methods("./proofs/BFromA/from/Answers.antt:3:1: error: `returns`: no", "        b").is_none());
+    assert!(of_methods("note: src/lib.rt:2:5: it is not proved that what the function ensures holds", "        b")
+        .is_none());
+    assert!(
+        of_methods("note: src/lib.rt:7:1: it is not proved that what the function ensures holds", "    c").is_none()
+    );
+    assert!(
+        of_methods("note: src/lib.rt:2:5: it is not proved that what the function ensures holds", "    c").is_some()
+    );
+    assert!(of_methods("./proofs/BFromA/from/Answers.antt:3:1: error: `returns`: no", "    c").is_some());
     // where the edited definition itself is refused, the edit does not read
     let text = "-- a root : of\npub root : List ℕ → ℕ\nroot p = b\n\npub record Held : Type 0 where\n  pub one : c\n";
     for (old, name) in [("→ ℕ", None), ("= b", Some("root")), (": c", Some("Held"))] {

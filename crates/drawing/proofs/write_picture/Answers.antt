@@ -23,6 +23,21 @@ pub slice_bounds-colours-end : goal.slice_bounds-colours-end
 slice_bounds-colours-end c =
     omega (arith, count_in_colours c.from_raster-merged.ensures, c.unwrap_or-count.ensures ∙ count_is c.from_raster-merged.result)
 
+pub slice_bounds-write_outlines-end : goal.slice_bounds-write_outlines-end
+slice_bounds-write_outlines-end c =
+    let merging = c.from_raster-merged in
+    omega (arith, length-take c.unwrap_or-count.result merging.new.codes, count_in_codes merging.ensures, c.unwrap_or-count.ensures ∙ count_is merging.result)
+
+pub slice_bounds-write_outlines-end-2 : goal.slice_bounds-write_outlines-end-2
+slice_bounds-write_outlines-end-2 c =
+    let merging = c.from_raster-merged in
+    omega (arith, length-take c.unwrap_or-count.result merging.new.levels, count_in_levels merging.ensures, c.unwrap_or-count.ensures ∙ count_is merging.result)
+
+pub slice_bounds-write_outlines-end-3 : goal.slice_bounds-write_outlines-end-3
+slice_bounds-write_outlines-end-3 c =
+    let merging = c.from_raster-merged in
+    omega (arith, length-take c.unwrap_or-count.result merging.new.colours, count_in_colours merging.ensures, c.unwrap_or-count.ensures ∙ count_is merging.result)
+
 pub write_outlines-requires : goal.write_outlines-requires
 write_outlines-requires c =
     let merging = c.from_raster-merged in

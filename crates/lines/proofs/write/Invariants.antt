@@ -1,6 +1,5 @@
 -- The loop's invariant: what was written and the text of the cycles left are the whole, and the cycles left have room.
 use Rattle.lines.specs.Writing.{Underway}
-use Prim.Native.Nat.{◌-◌}
 use Rattle.lines.proofs.write.Given as goal
 
 abbrev pub invariant-loop-k : goal.invariant-loop-k

@@ -1,5 +1,5 @@
 -- Samples row by row are drawn as they stand; those in block order fit the local raster, and what is put there is drawn.
-use Rattle.std.proofs.Common.{◌≡◌, refl, sym, ◌∙◌, ℕ, Result, Ok, Err, arith}
+use Rattle.std.proofs.Common.{◌≡◌, refl, sym, ◌∙◌, ℕ, Result, Ok, Err, arith, length-take}
 use Rattle.std.specs.Result.{result_unwrap_or}
 use Rattle.answers.specs.declared.cause.Cause.{Cause}
 use Rattle.answers.specs.Results.{written}
@@ -14,6 +14,12 @@ count_is (Err cause) = refl
 pub slice_bounds-raster-end : goal.slice_bounds-raster-end
 slice_bounds-raster-end c =
     omega (arith, count-inside c.requires (omega arith) c.from_block_order-done.ensures, c.unwrap_or-count.ensures ∙ count_is c.from_block_order-done.result)
+
+pub slice_bounds-write_picture-end : goal.slice_bounds-write_picture-end
+slice_bounds-write_picture-end c =
+    let done = c.from_block_order-done in
+    let inside = count-inside c.requires (omega arith) done.ensures in
+    omega (arith, length-take c.unwrap_or-count.result done.new.raster, inside, c.unwrap_or-count.ensures ∙ count_is done.result)
 
 pub write_picture-requires-in-BlockOrder : goal.write_picture-requires-in-BlockOrder
 write_picture-requires-in-BlockOrder c =
