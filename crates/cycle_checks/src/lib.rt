@@ -12,7 +12,7 @@ ghost use Rattle.cycle_checks.specs.Comparing.{CornerDue, CornerAgrees, Compared
 ghost use Rattle.cycle_checks.specs.Checked.{Checkable, CycleChecked};
 
 use cycles::{along_column, along_row};
-use interleaving::{code8, Spreads};
+use interleaving::{Spreads, code8};
 use steps::{EAST, Edge, MARK_BIT};
 
 // The walk of `cycles` along a row or a column, the eastward edges marked.

@@ -13,7 +13,7 @@ ghost use Rattle.retracing.specs.Checking.{EachChecked};
 ghost use Rattle.retracing.specs.LastPass.{Passes, EachMarked};
 
 use cycle_checks::cycle_agrees;
-use interleaving::{code8, Spreads};
+use interleaving::{Spreads, code8};
 use steps::MARK_BIT;
 
 // The rank of the cycle of the region `owner` whose first corner is p: cycles are listed by region number, then by the code of the start pixel.
