@@ -3,14 +3,14 @@ use Rattle.std.proofs.Common.{eq-eqb, ne_eqb}
 use Rattle.headers.specs.Space.{is_sign, is_end}
 use Rattle.headers.proofs.space.in_remark.Goals as goal
 
-pub returns-then-b-ne10 : goal.returns-then-b-ne10
+pub returns-then-b-eq10 : goal.returns-then-b-eq10
 unfolding is_end
-returns-then-b-ne10 c = simp (c.if-inside.true, ne_eqb _ _ c.if-b-ne10.true)
+returns-then-b-eq10 c = simp (c.if-inside.true, eq-eqb _ _ c.if-b-eq10.true)
 
-pub returns-else-b-ne10 : goal.returns-else-b-ne10
+pub returns-then-inside : goal.returns-then-inside
 unfolding is_end
-returns-else-b-ne10 c = simp (c.if-inside.true, eq-eqb _ _ c.if-b-ne10.false)
+returns-then-inside c = simp (c.if-inside.true, ne_eqb _ _ c.if-b-eq10.false)
 
-pub returns-else-inside : goal.returns-else-inside
+pub returns : goal.returns
 unfolding is_sign
-returns-else-inside c = simp c.if-inside.false
+returns c = simp c.if-inside.false
