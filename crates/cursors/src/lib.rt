@@ -1,8 +1,15 @@
-// A cursor in a block list: where its block ends, and the place that it goes on to.
+// A cursor in a block list: where its block ends, and the place that it goes on to; the smaller of two numbers.
 #![tactic(auto)]
 
-ghost use Rattle.std.specs.Prelude.{◌≡◌, ◌+◌, ◌^◌, ◌≤◌, ◌<◌};
+ghost use Rattle.std.specs.Prelude.{◌≡◌, ◌+◌, ◌^◌, ◌≤◌, ◌<◌, min};
 ghost use Rattle.cursors.specs.Cursors.{next_place};
+
+// The smaller of two numbers.
+pub fn least(a: usize, b: usize) -> usize
+    ensures { result ≡ min a b }
+{
+    a.min(b)
+}
 
 // The code after the last pixel of a block.
 pub fn end_of(code: u32, level: u8) -> usize

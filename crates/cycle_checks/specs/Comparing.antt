@@ -1,8 +1,8 @@
 -- The walk along one cycle that compares its corners with given ones and marks its eastward edges: what holds before each run, and that a
 -- run keeps it.
-use Rattle.std.specs.Prelude.{◌≡◌, refl, ◌≢◌, ◌⊎◌, Bool, true, false, not, length, get_or, eqb}
+use Rattle.std.specs.Prelude.{◌≡◌, refl, ◌≢◌, ◌⊎◌, Bool, true, false, not, length, get_or, eqb, leb}
 use Rattle.std.proofs.Math.Path.{sym, ap}
-use Rattle.std.proofs.Common.{ap₂, ◌∙◌, subst, inl, inr, le_trans, add-one, arith, length-append, length-take-le, take-suc, eqb-true, eq-eqb}
+use Rattle.std.proofs.Common.{ap₂, ◌∙◌, subst, inl, inr, le_trans, add-one, arith, length-append, length-take-le, take-suc, eqb-true, eq-eqb, leb-true, le-leb}
 use Rattle.std.proofs.lemmas.Bool.{false≢true}
 use mathlib.Core.List.{List, [], ◌∷◌, ◌++◌, append_assoc, append-nil}
 use Prim.Native.Nat.{ℕ, ◌+◌, ◌*◌, ◌%◌, ◌≤◌, ◌<◌}
@@ -24,7 +24,7 @@ use Rattle.cycles.specs.Points.{EdgeAt, way_at, at_start, not_at_start}
 use Rattle.cycles.specs.Rounds.{FirstEdge, rest, left_after, rest_none, Before, set_out, square-here, edge_here, rest-first, onward, all_marked}
 use Rattle.cycles.specs.Straight.{Straight, Gone, RunDone, run-done}
 use Rattle.cycles.specs.Walking.{corners_from}
-use Rattle.sequences.specs.Says.{Says, says_no, denied}
+use Rattle.sequences.specs.Says.{Says, says_yes, says_no, denied}
 use Rattle.cycle_checks.specs.Runs.{east_inside, RunEdges, run-edges}
 
 -- The given corners are those of the cycle through the edge s of a map, and no eastward edge of the cycle has a pixel with a smaller code on
@@ -76,6 +76,25 @@ pub code_of_edge : (x y d : ℕ) → x < 512 → d < 4 → code_right 8 (edge (p
 unfolding code_right
 code_of_edge x y d h l =
     ap (λ (p : ℕ). code 8 (x_of p) (y_of p)) (tail-edge (point x y) d l) ∙ ap₂ (code 8) (x_of_point x y h) (y_of_point x y h)
+
+-- ---- the test at a corner, case by case
+
+module _ {given : List ℕ} {used least x y d : ℕ} where
+  pub none_left : used ≡ length given → Says false (CornerAgrees given used least x y d)
+  none_left e = says_no (λ a. omega (arith, a.some))
+
+  pub another_corner : get_or given used 0 ≢ point x y → Says false (CornerAgrees given used least x y d)
+  another_corner n = says_no (λ a. n a.same)
+
+  module _ (some : used < length given) (same : get_or given used 0 ≡ point x y) where
+    pub not_eastward : d ≢ 0 → Says true (CornerAgrees given used least x y d)
+    not_eastward n = says_yes (record { some = some; same = same; not-below = λ z. absurd (n z) })
+
+    pub by_code : {c : ℕ} → c ≡ code 8 x y → d ≡ 0 → Says (leb least c) (CornerAgrees given used least x y d)
+    by_code {c} e z = (
+      λ h. record { some = some; same = same; not-below = λ _. subst (λ (v : ℕ). least ≤ v) e (leb-true least c h) },
+      λ a. le-leb least c (subst (λ (v : ℕ). least ≤ v) (sym e) (a.not-below z)),
+    )
 
 module _ {side r s : ℕ} {map₀ given map : List ℕ} {used x y d : ℕ} (first : FirstEdge side r s map₀) (w : Comparing side r s map₀ given map used x y d) where
   pub edge_at : EdgeAt side r map x y d

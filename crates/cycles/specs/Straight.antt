@@ -94,6 +94,13 @@ module _ {k side r column row x y d : ℕ} {map₀ map : List ℕ} (w : Onward k
       nearer = moved_here.nearer;
     }
 
+-- The digit written out.
+pub edge_with : {side r x y d o : ℕ} {map : List ℕ} → d ≡ o → EdgeAt side r map x y d → EdgeAt side r map x y o
+edge_with {side} {r} {x} {y} {d} {o} {map} h a = subst (EdgeAt side r map x y) h a
+
+pub gone_with : {k side r x y d o x' y' d' : ℕ} {map map' : List ℕ} → d ≡ o → Gone k side r map x y o map' x' y' d' → Gone k side r map x y d map' x' y' d'
+gone_with {k} {side} {r} {x} {y} {d} {o} {x'} {y'} {d'} {map} {map'} h g = subst (λ a. Gone k side r map x y a map' x' y' d') (sym h) g
+
 -- On the way round the cycle of a first edge: the run from the edge e up to the turn into e' is done.
 pub record RunDone (k side r s : ℕ) (map₀ map' : List ℕ) (e e' : ℕ) : Type 0 where
   pub round : After k side r s map₀ map' e'

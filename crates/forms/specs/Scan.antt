@@ -6,6 +6,18 @@ use Rattle.lattice.specs.Parity.{is_even, zero_even, even_next, even_not, even_y
 use Rattle.lattice.specs.Directions.{x_of}
 use Rattle.lattice.specs.CycleForm.{inside, all_inside, along, by_turns, steps, eastward, cycle_form}
 
+pub inside_on : (cs : List ℕ) (i : ℕ) → i < length cs → inside (get_or cs i 0) ≡ true → all_inside (drop (i + 1) cs) ≡ all_inside (drop i cs)
+unfolding all_inside
+inside_on cs i l h = rw (add-one, drop-cons cs i 0, h, all_inside) refl
+
+pub inside_off : (cs : List ℕ) (i : ℕ) → i < length cs → inside (get_or cs i 0) ≡ false → all_inside (drop i cs) ≡ false
+unfolding all_inside
+inside_off cs i l h = rw (drop-cons cs i 0, h, all_inside) refl
+
+pub inside-done : (cs : List ℕ) (i : ℕ) → length cs ≤ i → all_inside (drop i cs) ≡ true
+unfolding all_inside
+inside-done cs i h = rw (drop_of_length-le cs h) refl
+
 -- The steps from the corner at i on.
 unfoldable pub steps_from : List ℕ → ℕ → Bool
 steps_from cs i = by_turns (is_even i) (get_or cs i 0) (drop (i + 1) cs) (get_or cs 0 0)

@@ -7,7 +7,7 @@ ghost use Rattle.interleaving.specs.Spreads.{spread, spreads};
 ghost use Rattle.interleaving.specs.Gathering.{groups};
 
 // The table of the 256 spread numbers. It is lent, so that a loop over many pixels can build it once.
-#[derive(Drop)]
+#[derive(Clone, Copy)]
 pub struct Spreads {
     pub entries: [u16; 256],
     pub ghost rule: { entries ≡ spreads },

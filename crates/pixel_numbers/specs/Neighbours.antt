@@ -4,7 +4,7 @@ use Rattle.std.proofs.Common.{sym, ◌∙◌, arith}
 use Rattle.std.proofs.Math.Path.{ap, ap₂, subst, subst₂}
 use mathlib.Core.List.{List}
 use Rattle.std.proofs.Math.Arith.{digits_lt}
-use Rattle.sequences.specs.Powers.{pow4_mono, square_of_side}
+use Rattle.sequences.specs.Powers.{pow2_mono, pow4_mono, square_of_side}
 use Rattle.unions.specs.Pairs.{pair_of}
 use Rattle.unions.specs.Representatives.{join_at}
 use Rattle.unions.specs.Roots.{Low, root}
@@ -74,6 +74,12 @@ pub record PairJoined (n : ℕ) (colours work : List ℕ) (c d : ℕ) (work' : L
 module _ {n : ℕ} {colours work : List ℕ} {c own x y : ℕ} (g : PairNext n colours work c own x y) where
   size : n ≤ 8
   size = g.at.given.small
+
+  pub x_byte : x < 256
+  x_byte = omega (arith, g.at.x_inside, pow2_mono size)
+
+  pub y_byte : y < 256
+  y_byte = omega (arith, g.at.y_inside, pow2_mono size)
 
   code_is : code 8 x y ≡ code n x y
   code_is = code_wider n 8 x y size g.at.x_inside g.at.y_inside

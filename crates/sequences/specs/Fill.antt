@@ -1,4 +1,4 @@
--- One number stored along a stretch of a list.
+-- One value stored along a stretch of a list.
 use Rattle.std.specs.Prelude.{◌≡◌, refl, length, get_or, replicate, take, drop}
 use Rattle.std.proofs.Math.Path.{sym, ap}
 use Rattle.std.proofs.Common.{◌∙◌, add-zero, add-one, ext_get_or, get_or-set_same, get_or-set_other}

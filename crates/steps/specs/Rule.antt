@@ -56,6 +56,34 @@ module _ (m : ℕ → ℕ → ℕ) (r p : ℕ) {d ahead_right : ℕ} (low : d < 
     unfolding left_of
     turns_left both = (sym (go_left m r p d (sym seen ∙ inside) (sym seen_left ∙ both)), omega arith)
 
+-- The digits one by one.
+pub column_low : (x d : ℕ) → d < 2 → x + 1 ≡ column_at x d
+unfolding column_at
+column_low x zero h = refl
+column_low x (suc zero) h = refl
+column_low x (suc (suc d)) h = absurd (omega arith)
+
+pub column_high : (x d : ℕ) → 2 ≤ d → x ≡ column_at x d
+unfolding column_at
+column_high x zero h = absurd (omega arith)
+column_high x (suc zero) h = absurd (omega arith)
+column_high x (suc (suc d)) h = refl
+
+pub row_1 : (y d : ℕ) → d ≡ 1 → y ≡ row_at y d
+unfolding row_at
+row_1 y d e = rw e refl
+
+pub row_2 : (y d : ℕ) → d ≡ 2 → y ≡ row_at y d
+unfolding row_at
+row_2 y d e = rw e refl
+
+pub row_other : (y d : ℕ) → d ≢ 1 → d ≢ 2 → y + 1 ≡ row_at y d
+unfolding row_at
+row_other y zero a b = refl
+row_other y (suc zero) a b = absurd (a refl)
+row_other y (suc (suc zero)) a b = absurd (b refl)
+row_other y (suc (suc (suc d))) a b = refl
+
 -- The column and the row of the point one unit on from (x, y) with the digit d.
 unfoldable pub move_x : ℕ → ℕ → ℕ
 move_x x zero = x + 1
@@ -68,6 +96,40 @@ move_y y zero = y
 move_y y (suc zero) = y - 1
 move_y y (suc (suc zero)) = y
 move_y y (suc (suc (suc d))) = y + 1
+
+pub x_east : (x d : ℕ) → d ≡ 0 → x + 1 ≡ move_x x d
+unfolding move_x
+x_east x d e = rw e refl
+
+pub x_west : (x d : ℕ) → d ≡ 2 → x - 1 ≡ move_x x d
+unfolding move_x
+x_west x d e = rw e refl
+
+pub x_other : (x d : ℕ) → d ≢ 0 → d ≢ 2 → x ≡ move_x x d
+unfolding move_x
+x_other x zero a b = absurd (a refl)
+x_other x (suc zero) a b = refl
+x_other x (suc (suc zero)) a b = absurd (b refl)
+x_other x (suc (suc (suc d))) a b = refl
+
+pub y_east : (y d : ℕ) → d ≡ 0 → y ≡ move_y y d
+unfolding move_y
+y_east y d e = rw e refl
+
+pub y_north : (y d : ℕ) → d ≡ 1 → y - 1 ≡ move_y y d
+unfolding move_y
+y_north y d e = rw e refl
+
+pub y_west : (y d : ℕ) → d ≡ 2 → y ≡ move_y y d
+unfolding move_y
+y_west y d e = rw e refl
+
+pub y_south : (y d : ℕ) → d ≢ 0 → d ≢ 1 → d ≢ 2 → y + 1 ≡ move_y y d
+unfolding move_y
+y_south y zero a b c = absurd (a refl)
+y_south y (suc zero) a b c = absurd (b refl)
+y_south y (suc (suc zero)) a b c = absurd (c refl)
+y_south y (suc (suc (suc d))) a b c = refl
 
 -- The units that are left in the image from (x, y) on with the digit d.
 unfoldable pub units_ahead : ℕ → ℕ → ℕ → ℕ

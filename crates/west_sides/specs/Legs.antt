@@ -11,7 +11,6 @@ use Rattle.lattice.specs.Walks.{run, straight}
 use Rattle.lattice.specs.Legs.{straight_is, one_of_four}
 use Rattle.lattice.specs.Outlines.{x_of_point, y_of_point, tail-edge, digit-edge}
 use Rattle.orbits.specs.Members.{In, in_first, in_cases, in_none}
-use Rattle.steps.specs.Look.{Square}
 use Rattle.west_sides.specs.Northward.{place_right, PixelInside, stores, norths, Fits, Stored}
 use Rattle.west_sides.specs.Northward.{store-north, norths-north, stores_none, norths_none, all_stored, not_stored}
 
@@ -147,14 +146,14 @@ one_stored side x r k y w h =
     ap (stores side r (run 1 k (p - 512))) (store-north side r w (edge p 1) (digit-edge p 1 (omega arith)) ∙ ap (λ (i : ℕ). set w i r) at)
     ∙ ap (λ (t : ℕ). stores side r (run 1 k t) (set w (y * side + x) r)) (point-north x y)
 
-module _ {side x from to r y : ℕ} {w₀ w : List ℕ} (square : Square side w₀) (x_below : x < side) (less : to < y)
+module _ {side x from to r y : ℕ} {w₀ w : List ℕ} (narrow : side ≤ 256) (x_below : x < side) (less : to < y)
     (g : StoringNorth side x from to r w₀ w y) where
   pub north_again : StoringNorth side x from to r w₀ (set w ((y - 1) * side + x) r) (y - 1)
   north_again = record {
     low = omega (arith, g.low);
     long = length-set w ((y - 1) * side + x) r ∙ g.long;
     rest =
-        sym (one_stored side x r (y - 1 - to) (y - 1) w (omega (arith, square.small)))
+        sym (one_stored side x r (y - 1 - to) (y - 1) w (omega arith))
         ∙ ap₂ (λ (k q : ℕ). stores side r (run 1 k (point x q)) w) count (omega arith)
         ∙ g.rest;
   }

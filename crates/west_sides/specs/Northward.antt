@@ -16,6 +16,7 @@ use Rattle.sequences.specs.Cases.{first, when, first_some}
 use Rattle.lattice.specs.Directions.{point, x_of, y_of, edge, tail, digit}
 use Rattle.orbits.specs.Members.{In, in_first, in_later, in_append, in_left, in_right}
 use Rattle.grid.specs.Sides.{side_at}
+use Rattle.steps.specs.Look.{Square}
 use Rattle.orbits.specs.Finding.{member, member-here, member_later}
 
 -- The place, in rows of the length `side`, of the pixel on the right of a northward edge: its tail is the pixel's southwest corner.
@@ -143,6 +144,10 @@ all_stored long a = record { long = long; done = λ z. a; none = λ z f. false�
 
 pub not_stored : {side r units left : ℕ} {es w w' : List ℕ} → length w' ≡ length w → (Fits side units es → ⊥) → Stored side r units es w w' false left
 not_stored long no_fit = record { long = long; done = λ z. absurd (false≢true z); none = λ z. no_fit }
+
+-- A map that keeps its length has an entry for each pixel still.
+pub still_square : {side : ℕ} {w w' : List ℕ} → length w' ≡ length w → Square side w → Square side w'
+still_square long h = record { small = h.small; room = omega (arith, h.room) }
 
 -- ---- what the place of a pixel holds then
 

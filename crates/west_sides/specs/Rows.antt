@@ -31,6 +31,9 @@ pub record RowFilled (row row' : List ℕ) (ok : Bool) : Type 0 where
   pub told : ok ≡ true → (0 < get_or row 0 0) × ((x : ℕ) → x < length row → get_or row' x 0 ≡ from_west (λ i. get_or row i 0) x)
   pub none : ok ≡ false → get_or row 0 0 ≡ 0
 
+pub row_not_told : (row : List ℕ) → get_or row 0 0 ≡ 0 → RowFilled row row false
+row_not_told row h = record { long = refl; told = λ z. absurd (false≢true z); none = λ z. h }
+
 -- The places before i are filled, the others are as they were; `west` is the entry of the last place that is filled.
 pub record InRow (row₀ row : List ℕ) (west i : ℕ) : Type 0 where
   pub after : 0 < i
