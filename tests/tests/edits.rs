@@ -56,9 +56,11 @@ fn places(text: &str) -> Vec<Place> {
     places
 }
 
-/// A function or method of a source: its name, and its lines from the attributes above it to the one before the next function.
+/// A function or method of a source: its name, whether it is a method, and its lines from the attributes above it to the one before the next
+/// function.
 struct Function {
     name: String,
+    method: bool,
     first: usize,
     last: usize,
 }
@@ -78,7 +80,8 @@ fn function_at(source: &str, old: &str) -> Option<Function> {
         (0..lines.len()).filter_map(|i| name_of_function(lines[i]).map(|name| (i + 1 - attributes(i), name))).collect();
     let at = heads.iter().rposition(|(first, _)| *first <= line)?;
     let last = heads.get(at + 1).map_or(usize::MAX, |(first, _)| first - 1);
-    Some(Function { name: heads[at].1.clone(), first: heads[at].0, last })
+    let (first, name) = heads[at].clone();
+    Some(Function { name, method: lines[first - 1].starts_with(' '), first, last })
 }
 
 /// The line is about a file, at the line number that is handed back.
@@ -104,7 +107,11 @@ fn is_own(said: &str, place: &Place, source: &str) -> bool {
     // The folder of a method is in that of its type.
     let folder = said.split(':').next().and_then(|path| path.rsplit_once('/')).map_or("", |(folder, _)| folder);
     let of_module = folder.strip_prefix(&format!("./proofs/{module}"));
-    let in_proof = error && of_module.is_some_and(|rest| rest.rsplit('/').next() == Some(function.name.as_str()));
+    let own_folder = |rest: &str| match rest.rsplit_once('/') {
+        Some((of_type, name)) => function.method && !of_type.contains('/') && name == function.name,
+        None => !function.method && rest == function.name,
+    };
+    let in_proof = error && of_module.is_some_and(own_folder);
     let unproved = said.starts_with("note: ") && said.contains("it is not proved that");
     let at_line = line_in(said, &place.file).is_some_and(|line| function.first <= line && line <= function.last);
     in_proof || unproved && at_line
@@ -220,6 +227,9 @@ fn what_shows_nothing_is_seen() {
         "impl From<A> for B {\n    fn from(a: A) -> B {\n        b\n    }\n}\n\n#[inline]\nfn three() {\n    c\n}\n";
     let of_methods = |said: &str, old: &str| fault(&refused(said), &place("src/lib.rt", old), |_| methods.to_string());
     assert!(of_methods("./proofs/BFromA/from/Answers.antt:3:1: error: `returns`: no", "        b").is_none());
+    assert!(of_methods("./proofs/from/Answers.antt:3:1: error: `returns`: no", "        b").is_some());
+    assert!(of_methods("./proofs/m/BFromA/from/Answers.antt:3:1: error: `returns`: no", "        b").is_some());
+    assert!(of_methods("./proofs/m/three/Answers.antt:3:1: error: `returns`: no", "    c").is_some());
     assert!(of_methods("note: src/lib.rt:2:5: it is not proved that what the function ensures holds", "        b")
         .is_none());
     assert!(
